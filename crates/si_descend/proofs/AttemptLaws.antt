@@ -1,5 +1,6 @@
 -- Which children of a node were tried, place by place, and that the others are closed.
 use Rattle.std.proofs.Common.{◌≡◌, ◌⊎◌, inl, inr, ℕ, zero, suc, ◌+◌, ◌-◌, ◌<◌, ◌≤◌, List, [], ◌∷◌, ◌++◌, Option, None, Some, length, slice_get, refl, ap, sym, ◌∙◌, subst, arith}
+use Rattle.std.specs.Prelude.{Vec, vec_capacity}
 use Rattle.std.specs.Borrow.{Bor}
 use Rattle.std.specs.List.{AllByRecursion}
 use Rattle.std.proofs.lemmas.Bool.Decides.{eqb_tells}
@@ -29,8 +30,10 @@ use Rattle.si_descend.specs.declared.attempts.Lookup.{Lookup}
 use Rattle.si_descend.specs.declared.heads.Wanted.{Wanted}
 use Rattle.si_descend.specs.declared.search.Search.{Search}
 use Rattle.si_descend.specs.Attempts.{head_at, wanted_of, place_count, HasHeadBelow, AreHeadsFor, HasPlaces, IsTried, IsTriedBefore, AreAttempts}
+use Rattle.si_descend.specs.Lending.{HasRoomForAnswers}
 use Rattle.si_descend.specs.Heads.{SplitsBy, IsWanted, RulesOut}
-use Rattle.si_descend.specs.Searching.{IsReady, HasComeTo, IsClosedAt, HasFound, HasFoundBelow}
+use Rattle.si_descend.specs.Searching.{IsReady, HasComeTo, IsClosedAt, HasFound, HasFoundBelow, HasRoomBelow}
+use Rattle.si_descend.proofs.EnoughLaws.{child_fits}
 use Rattle.si_descend.proofs.ExactLists.{distinct_both}
 use Rattle.si_descend.proofs.Below.{IsChildOf}
 use Rattle.si_descend.proofs.HeadLaws.{ruled_out}
@@ -230,6 +233,14 @@ module _ (search : Search) (ready : IsReady search) (key : ℕ) (node : Node Ter
     found_more place child old mid last m n within t (tried, were, before) found =
         let now = one_more_tried place child tried within t were in
         (tried ++ child ∷ [], now, one_child_more search ready key node has tried child old mid last m n (tried_siblings (place + 1) (tried ++ child ∷ []) now) (not_tried_yet place child tried within t were) before found)
+
+    -- and for what is found at the next place there is room
+    pub next_fits : {A : Type 0} (place child : ℕ) (out now : Vec Posting A) (n : ℕ) → place < place_count a → IsTried search key a place child → IsUnderway search key a place (λ tried. HasFoundBelow search tried out.items now.items n) → vec_capacity out ≤ vec_capacity now → HasRoomBelow search (children_of node.content) out → HasRoomForAnswers search.tree.now child search.relation search.query.now now
+    next_fits place child out now n within t (tried, were, found) more room =
+        let next = one_more_tried place child tried within t were in
+        child_fits search ready key node has tried (children_of node.content) child out now n (tried_siblings (place + 1) (tried ++ child ∷ []) next) (not_tried_yet place child tried within t were)
+        (λ c b. (let w = were.before c b in tried_among w.0 c w.2))
+        (tried_among place child t) found more room
 
     pub found_all : (pairs : Pairs) → HasComeTo search (Some key) pairs → IsWanted search key pairs (wanted_of a) → (place : ℕ) (old last : List Posting) (n : ℕ) → place_count a ≤ place → IsUnderway search key a place (λ tried. HasFoundBelow search tried old last n) → HasFoundBelow search (children_of node.content) old last n
     found_all pairs there wanted place old last n through (tried, were, found) =

@@ -115,7 +115,7 @@ module _ (tree : Tree Term) (legal : IsLegal tree) (relation : Relation) (q : Te
         one_below (Some key) h.path other h.leads a h.below
         (subst (λ p. PassesBy p top) (one_path tree (Some key) g.path h.path g.leads h.leads) g.below)
 
-    answered_apart : (p : Posting) → IsAnswerBelow tree tops relation q p → IsAnswer tree top relation q p → ⊥
+    pub answered_apart : (p : Posting) → IsAnswerBelow tree tops relation q p → IsAnswer tree top relation q p → ⊥
     answered_apart p (other, a, h) g =
         let same : g.key ≡ h.key = legal.postings_differ g.key h.key g.term h.term p (g.postings, g.leaf, g.among) (h.postings, h.leaf, h.among) in
         one_below (Some h.key) ((h.key, h.leaf.node) ∷ h.leaf.above) other h.leaf.reached a h.below
@@ -262,7 +262,7 @@ module _ (tree : Tree Term) (legal : IsLegal tree) (relation : Relation) (q : Te
           let both = exactly_same (λ key. (top ≡ key) ⊎ IsOpenBelowOne tree children relation q key) (IsOpenNode tree top relation q) (top ∷ c.0) (λ key. (λ g. open_parts key g h, parts_open key)) (exactly_both (λ key. top ≡ key) (IsOpenBelowOne tree children relation q) (top ∷ []) c.0 own (counted_below children n c) not_top) in
           (top ∷ c.0, both.distinct, both.exact, omega (arith, c.3))
 
-      answered : (p : Posting) → IsAnswerBelow tree children relation q p ↔ IsAnswer tree top relation q p
+      pub answered : (p : Posting) → IsAnswerBelow tree children relation q p ↔ IsAnswer tree top relation q p
       answered p = (
         λ g. record {
           key = g.2.key;

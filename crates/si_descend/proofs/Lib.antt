@@ -9,6 +9,7 @@ pub mod Entering
 pub mod Opening
 pub mod Depths
 pub mod Visiting
+pub mod EnoughLaws
 pub mod FreeLaws
 pub mod RenameLaws
 pub mod VariantLaws

@@ -1,5 +1,6 @@
 -- What is found where all nodes below are open, child by child.
 use Rattle.std.proofs.Common.{◌≡◌, ℕ, ◌+◌, ◌<◌, ◌≤◌, false, true, List, [], ◌∷◌, ◌++◌, Option, Some, length, take, drop, slice_get, get_or, inl, inr, refl, ap, sym, ◌∙◌, subst}
+use Rattle.std.specs.Prelude.{Vec, vec_capacity}
 use Rattle.std.specs.Option.{is_some}
 use Rattle.std.proofs.lemmas.List.{take_more, take_all, take-append-drop}
 use Rattle.si_defs.specs.Substitutions.{IsAmong, AreDistinct}
@@ -12,8 +13,10 @@ use Rattle.si_legal.specs.Legal.{IsLegalNode, IsLegalContent}
 use Rattle.si_legal.specs.OpenNodes.{IsOpen}
 use Rattle.si_tree.specs.Reading.{children_of, split_of}
 use Rattle.si_descend.specs.declared.search.Search.{Search}
-use Rattle.si_descend.specs.Searching.{IsReady, IsOpenAt, AreOpenBelow, HasFound, HasFoundBelow}
+use Rattle.si_descend.specs.Searching.{IsReady, IsOpenAt, AreOpenBelow, HasFound, HasFoundBelow, HasRoomBelow}
 use Rattle.si_descend.proofs.Below.{IsChildOf, passes_child, child_passes, passes_first}
+use Rattle.si_descend.specs.Lending.{HasRoomForAnswers}
+use Rattle.si_descend.proofs.EnoughLaws.{child_fits}
 use Rattle.si_descend.proofs.Visiting.{AreSiblings, siblings, one_child_more}
 
 -- ---- downwards
@@ -64,6 +67,17 @@ module _ (search : Search) (ready : IsReady search) (key : ℕ) (node : Node Ter
       next : take (place + 1) children ≡ take place children ++ child ∷ []
       next = take_more children place child within ∙ ap (λ c. take place children ++ c ∷ []) (sym is)
 
+      are_more : AreSiblings search ready key node has (take place children ++ child ∷ [])
+      are_more = subst (AreSiblings search ready key node has) (take_more children place child within ∙ ap (λ c. take place children ++ c ∷ []) (sym is)) (taken_siblings (place + 1))
+
+  -- for what is found below the next child there is room
+  pub walked_fits : {A : Type 0} (place child : ℕ) (out now : Vec Posting A) (n : ℕ) → place < length children → child ≡ get_or children place child → HasFoundBelow search (take place children) out.items now.items n → vec_capacity out ≤ vec_capacity now → HasRoomBelow search (children_of node.content) out → HasRoomForAnswers search.tree.now child search.relation search.query.now now
+  walked_fits place child out now n within is before more room =
+      child_fits search ready key node has (take place children) (children_of node.content) child out now n are_more (λ a. (distinct_parts (take place children) (child ∷ []) are_more.distinct).2 child a (inl refl))
+      (λ c a. subst (λ l. IsAmong l c) are (subst (λ l. IsAmong l c) (take-append-drop place children) (among_front (take place children) (drop place children) c a)))
+      (subst (λ l. IsAmong l child) are (subst (IsAmong children) (sym is) (all_get (IsAmong children) children place child (all_from (IsAmong children) children (λ x a. a)) within)))
+      before more room
+    where
       are_more : AreSiblings search ready key node has (take place children ++ child ∷ [])
       are_more = subst (AreSiblings search ready key node has) (take_more children place child within ∙ ap (λ c. take place children ++ c ∷ []) (sym is)) (taken_siblings (place + 1))
 

@@ -6,3 +6,4 @@ pub mod Subtrees
 pub mod Heads
 pub mod Attempts
 pub mod Counting
+pub mod Lending

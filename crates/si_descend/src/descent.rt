@@ -1,11 +1,14 @@
 // The calls: a descent from a node, and one of the whole tree.
-ghost use Rattle.std.specs.Prelude.{◌≡◌, ◌↔◌, ◌^◌, IsTrue, IfOk, OnOk, OnErr, length};
+ghost use Rattle.std.specs.Prelude.{◌≡◌, ◌↔◌, ◌≤◌, ◌^◌, IsTrue, IfOk, OnOk, OnErr, length, vec_capacity, ℕ};
 ghost use Rattle.si_defs.specs.Substitutions.{Grows};
 ghost use Rattle.si_trail.specs.Trails.{HasDistinctSlots};
 ghost use Rattle.si_flat.specs.Cells.{IsWhole};
 ghost use Rattle.si_tree.specs.Reading.{IsNode};
 ghost use Rattle.si_descend.specs.Answers.{Finds, Retrieves};
 ghost use Rattle.si_descend.specs.Counting.{CountsAnswers, HasCounted};
+ghost use Rattle.si_defs.specs.declared.Relation.TheVariants.{Variants};
+ghost use Rattle.si_unify.specs.Rooms.{IsNoLessRoom};
+ghost use Rattle.si_descend.specs.Lending.{HasRoomForAnswers, IsEnoughForTree};
 ghost use Rattle.si_descend.specs.Descending.{Freezes, HasRoomFor, IsQuery, ShowsAbove};
 ghost use Rattle.si_fit.specs.Fitting.{AllowsSolving};
 ghost use Rattle.si_descend.specs.Searching.{IsReady, KeepsApart, HasNoneTaken, NotesTaken, HasFound};
@@ -26,7 +29,14 @@ use std::alloc::{AllocError, Global};
 /// relation to the query. It answers how many nodes are open there.
 ///
 /// On the trail the bindings of the nodes above are solved, with indicator 0 for the query. It is
-/// as before in the end. At an error the postings are as before too.
+/// as before in the end. At an error the postings are as before too. The scratch is lent; it has no
+/// less room in the end.
+///
+/// # Errors
+///
+/// `AllocError` where there is no memory. But where no variants are sought it never comes if the
+/// scratch has room enough to solve all bindings of the tree over those of the trail, and `out` for
+/// all that can be found. Variants take a table of the query's variables at each call.
 pub fn descend<'a>(
     alloc: Global,
     tree: &'a Tree,
@@ -34,6 +44,7 @@ pub fn descend<'a>(
     relation: Relation,
     query: &'a Flat,
     slots: &Slots,
+    scratch: &mut Scratch,
     trail: &mut Trail<&'a [Cell]>,
     out: &mut Vec<Posting>,
 ) -> Result<u64, AllocError>
@@ -48,11 +59,16 @@ pub fn descend<'a>(
     ensures err { OnErr result (out.new.items ≡ out.old.items) }
     ensures pairs { trail.new.pairs ≡ trail.old.pairs }
     ensures slots { trail.new.slots ≡ trail.old.slots }
+    ensures full { OnErr result ((n : ℕ)
+        → IsEnoughForTree n tree.now slots.now trail.old.pairs scratch.old
+        → HasRoomForAnswers tree.now node relation query.now out.old → relation ≡ Variants) }
+    ensures keeps { IsNoLessRoom scratch.old scratch.new }
+    ensures room { vec_capacity out.old ≤ vec_capacity out.new }
 {
     let search = Search::new(tree, relation, query, *slots);
     let mark = trail.mark();
     let before = out.len();
-    match search_below(alloc, &search, node, trail, out) {
+    match search_below(alloc, &search, node, scratch, trail, out) {
         Ok(count) => Ok(count),
         Err(error) => {
             trail.undo(mark);
@@ -81,7 +97,18 @@ pub fn retrieve(
     let slots = slots_for(tree, relation, cells);
     let mut trail = Trail::with_slots(alloc, slots.count())?;
     trail.bind(slots.query as usize + slots.entry as usize, cells);
-    descend(alloc, tree, root, relation, query, &slots, &mut trail, out)
+    let mut scratch = Scratch::new(alloc);
+    descend(
+        alloc,
+        tree,
+        root,
+        relation,
+        query,
+        &slots,
+        &mut scratch,
+        &mut trail,
+        out,
+    )
 }
 
 /// Counts the postings that [`retrieve`] would append, and the open nodes. It copies no posting.
@@ -170,6 +197,7 @@ fn search_below<'a>(
     alloc: Global,
     search: &Search<'a>,
     node: NodeId,
+    scratch: &mut Scratch,
     trail: &mut Trail<&'a [Cell]>,
     out: &mut Vec<Posting>,
 ) -> Result<u64, AllocError>
@@ -184,13 +212,17 @@ fn search_below<'a>(
     ensures grows { Grows trail.old.pairs trail.new.pairs }
     ensures out_grows { Grows out.old.items out.new.items }
     ensures slots { trail.new.slots ≡ trail.old.slots }
+    ensures full { OnErr result ((n : ℕ) → IsEnoughForTree n search.now.tree.now search.now.slots
+        trail.old.pairs scratch.old → HasRoomForAnswers search.now.tree.now node search.now.relation
+        search.now.query.now out.old → search.now.relation ≡ Variants) }
+    ensures keeps { IsNoLessRoom scratch.old scratch.new }
+    ensures room { vec_capacity out.old ≤ vec_capacity out.new }
 {
     let mut taken = Taken::none(alloc, search.relation, &search.slots)?;
     if !keeps_apart(search, trail, &mut taken) {
         return Ok(0);
     }
-    let mut scratch = Scratch::new(alloc);
-    visit(search, node, &mut scratch, trail, &mut taken, out)
+    visit(search, node, scratch, trail, &mut taken, out)
 }
 
 // Whether the bindings of the nodes above leave them open, where these are solved. What their

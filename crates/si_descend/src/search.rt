@@ -1,5 +1,5 @@
 // The search of a tree from a node downwards.
-ghost use Rattle.std.specs.Prelude.{◌≡◌, Some, IfOk, IsTrue};
+ghost use Rattle.std.specs.Prelude.{◌≡◌, ◌≤◌, Some, IfOk, IsTrue, OnErr, OnOk, vec_capacity, ℕ};
 ghost use Rattle.si_defs.specs.Substitutions.{Grows};
 ghost use Rattle.si_tree.specs.Reading.{AtNode, children_of};
 ghost use Rattle.si_descend.specs.Descending.{Freezes, HasRoomFor, IsQuery};
@@ -7,7 +7,9 @@ ghost use Rattle.si_fit.specs.Fitting.{AllowsSolving};
 ghost use Rattle.si_descend.specs.declared.attempts.Attempts.TheVariants.{InOrder, ByHeads};
 ghost use Rattle.si_descend.specs.Attempts.{AreAttempts};
 ghost use Rattle.si_descend.specs.Heads.{IsWanted};
-ghost use Rattle.si_descend.specs.Searching.{IsReady, IsAboveNode, IsAtNode, IsOpenAt, HasEntered, HasFound, HasFoundBelow, NotesTaken, Returns};
+ghost use Rattle.si_descend.specs.Lending.{IsEnoughForTree};
+ghost use Rattle.si_unify.specs.Rooms.{AreNoLongerThan, IsNoLessRoom};
+ghost use Rattle.si_descend.specs.Searching.{IsReady, IsAboveNode, IsAtNode, IsOpenAt, HasEntered, HasFound, HasFoundBelow, LacksRoom, LacksRoomBelow, NotesTaken, Returns};
 
 use crate::attempts::{Attempts, Lookup, Scan, attempts_at, child_by_head, child_in_order};
 use crate::subtrees::{append_all, is_open_below};
@@ -78,6 +80,11 @@ pub(crate) fn enter<'a>(
         → NotesTaken search.now.relation search.now.slots trail.new.pairs taken.new) }
     ensures taken_grows { Grows taken.old.pairs taken.new.pairs }
     ensures taken_slots { taken.new.slots ≡ taken.old.slots }
+    ensures full { OnErr result ((n : ℕ) → IsEnoughForTree n search.now.tree.now search.now.slots
+        trail.old.pairs scratch.old → ⊥) }
+    ensures keeps { IsNoLessRoom scratch.old scratch.new }
+    ensures within { OnOk result ((n : ℕ) → IsEnoughForTree n search.now.tree.now search.now.slots
+        trail.old.pairs scratch.old → AreNoLongerThan n trail.new.pairs) }
 {
     let known = trail.mark();
     if !fit(scratch, trail, &search.slots, search.tree.bindings(node))? {
@@ -109,6 +116,9 @@ pub(crate) fn visit<'a>(
     ensures found { IfOk result (HasFound search.now node out.old.items out.new.items) }
     ensures returns { Returns result trail.old trail.new taken.old taken.new }
     ensures out_grows { Grows out.old.items out.new.items }
+    ensures full { OnErr result (LacksRoom search.now node trail.old.pairs scratch.old out.old) }
+    ensures keeps { IsNoLessRoom scratch.old scratch.new }
+    ensures room { vec_capacity out.old ≤ vec_capacity out.new }
 {
     let mark = trail.mark();
     let taken_mark = taken.mark();
@@ -139,6 +149,9 @@ fn visit_open<'a>(
     ensures found { IfOk result (HasFound search.now node out.old.items out.new.items) }
     ensures returns { Returns result trail.old trail.new taken.old taken.new }
     ensures out_grows { Grows out.old.items out.new.items }
+    ensures full { OnErr result (LacksRoom search.now node trail.old.pairs scratch.old out.old) }
+    ensures keeps { IsNoLessRoom scratch.old scratch.new }
+    ensures room { vec_capacity out.old ≤ vec_capacity out.new }
 {
     if is_open_below(search, node, trail) {
         return append_all(search, node, out);
@@ -164,6 +177,11 @@ fn visit_children<'a>(
         HasFoundBelow search.now (children_of parent.content) out.old.items out.new.items n)) }
     ensures returns { Returns result trail.old trail.new taken.old taken.new }
     ensures out_grows { Grows out.old.items out.new.items }
+    ensures full { OnErr result (AtNode search.now.tree.now node (λ parent.
+        LacksRoomBelow search.now (children_of parent.content) trail.old.pairs scratch.old
+        out.old)) }
+    ensures keeps { IsNoLessRoom scratch.old scratch.new }
+    ensures room { vec_capacity out.old ≤ vec_capacity out.new }
 {
     match attempts_at(search, node, trail) {
         Attempts::InOrder(scan) => visit_in_order(search, node, scan, scratch, trail, taken, out),
@@ -190,6 +208,11 @@ fn visit_in_order<'a>(
         HasFoundBelow search.now (children_of parent.content) out.old.items out.new.items n)) }
     ensures returns { Returns result trail.old trail.new taken.old taken.new }
     ensures out_grows { Grows out.old.items out.new.items }
+    ensures full { OnErr result (AtNode search.now.tree.now node (λ parent.
+        LacksRoomBelow search.now (children_of parent.content) trail.old.pairs scratch.old
+        out.old)) }
+    ensures keeps { IsNoLessRoom scratch.old scratch.new }
+    ensures room { vec_capacity out.old ≤ vec_capacity out.new }
 {
     let mut count = 0;
     for place in 0..scan.children.len() {
@@ -220,6 +243,11 @@ fn visit_by_heads<'a>(
         HasFoundBelow search.now (children_of parent.content) out.old.items out.new.items n)) }
     ensures returns { Returns result trail.old trail.new taken.old taken.new }
     ensures out_grows { Grows out.old.items out.new.items }
+    ensures full { OnErr result (AtNode search.now.tree.now node (λ parent.
+        LacksRoomBelow search.now (children_of parent.content) trail.old.pairs scratch.old
+        out.old)) }
+    ensures keeps { IsNoLessRoom scratch.old scratch.new }
+    ensures room { vec_capacity out.old ≤ vec_capacity out.new }
 {
     let mut count = 0;
     for place in 0..heads.end {

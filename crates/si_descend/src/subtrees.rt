@@ -1,5 +1,5 @@
 // Whole subtrees that are open: they are walked, and no binding is solved.
-ghost use Rattle.std.specs.Prelude.{◌≡◌, IfOk, IsTrue, false};
+ghost use Rattle.std.specs.Prelude.{◌≡◌, ◌≤◌, IfOk, IsTrue, OnErr, false, vec_capacity};
 ghost use Rattle.si_defs.specs.Substitutions.{Grows};
 ghost use Rattle.si_tree.specs.Reading.{IsNode};
 ghost use Rattle.si_flat.specs.Cells.{ind};
@@ -7,7 +7,7 @@ ghost use Rattle.si_trail.specs.Trails.{value_at};
 ghost use Rattle.si_unify.specs.Solving.{slot_of};
 ghost use Rattle.si_fit.specs.Fitting.{AllowsSolving};
 ghost use Rattle.si_descend.specs.Counting.{HasCounted};
-ghost use Rattle.si_descend.specs.Searching.{AreOpenBelow, HasComeTo, HasFound, IsOpenAt, IsReady};
+ghost use Rattle.si_descend.specs.Searching.{AreOpenBelow, HasComeTo, HasFound, IsOpenAt, IsReady, LacksPlace};
 ghost use Rattle.si_descend.specs.Subtrees.{has_symbol};
 
 use crate::counting::Counted;
@@ -92,6 +92,8 @@ pub(crate) fn append_all(
     requires opened { AreOpenBelow search.now node }
     ensures found { IfOk result (HasFound search.now node out.old.items out.new.items) }
     ensures out_grows { Grows out.old.items out.new.items }
+    ensures full { OnErr result (LacksPlace search.now node out.old) }
+    ensures room { vec_capacity out.old ≤ vec_capacity out.new }
 {
     search.tree.postings(node).append_to(out)?;
     let mut below = 0;

@@ -1,5 +1,6 @@
 // Which variables of the query an entry's became.
-ghost use Rattle.std.specs.Prelude.{◌≡◌, ◌<◌, ◌≤◌, IfOk, is_none, length, take};
+ghost use Rattle.std.specs.Prelude.{◌≡◌, ◌<◌, ◌≤◌, IfOk, OnErr, is_none, length, take};
+ghost use Rattle.si_defs.specs.declared.Relation.TheVariants.{Variants};
 ghost use Rattle.si_trail.specs.Trails.{value_at};
 ghost use Rattle.si_descend.specs.Renaming.{Takes};
 ghost use Rattle.si_descend.specs.Searching.{HasNoneTaken};
@@ -33,7 +34,8 @@ impl Taken {
         relation: Relation,
         slots: &Slots,
     ) -> Result<Taken, AllocError>
-        ensures { IfOk result (HasNoneTaken relation slots.now) }
+        ensures none { IfOk result (HasNoneTaken relation slots.now) }
+        ensures err { OnErr result (relation ≡ Variants) }
     {
         match relation {
             Relation::Variants => {

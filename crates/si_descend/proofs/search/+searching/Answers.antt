@@ -1,11 +1,16 @@
-use Rattle.std.proofs.Common.{◌+◌, [], take, refl, ap, sym, ◌∙◌, subst, append-nil, arith}
+use Rattle.std.proofs.lemmas.Result.{on_err_weaker}
+use Rattle.si_term.proofs.Results.{on_err}
+use Rattle.si_tree.specs.Reading.{AtNode, children_of, postings_of}
+use Rattle.si_unify.proofs.RoomLaws.{same_room, room_on}
+use Rattle.si_descend.proofs.EnoughLaws.{enough_still, enough_back, no_place, own_fit, below_fits}
+use Rattle.std.proofs.Common.{length, ◌+◌, [], take, refl, ap, sym, ◌∙◌, subst, append-nil, arith}
 use Rattle.si_changes.proofs.Frames.{legal_nodes}
-use Rattle.si_descend.specs.Searching.{HasEntered, HasFoundBelow}
+use Rattle.si_descend.specs.Searching.{HasEntered, HasFoundBelow, LacksRoom, LacksRoomBelow}
 use Rattle.si_descend.proofs.Below.{IsChildOf}
 use Rattle.si_descend.proofs.Depths.{child_deeper, falls}
 use Rattle.si_descend.proofs.Visiting.{goes_down, postings_appended, same_trail, found_closed, found_open, none_yet, few_below, few_found, found_grows}
 use Rattle.si_descend.specs.declared.attempts.Attempts.TheVariants.{InOrder, ByHeads}
-use Rattle.si_descend.proofs.AttemptLaws.{IsUnderway, none_tried, one_not_tried, tried_child, found_more, found_all}
+use Rattle.si_descend.proofs.AttemptLaws.{IsUnderway, none_tried, one_not_tried, tried_child, found_more, next_fits, found_all}
 use Rattle.si_unify.proofs.Answering.{front_of}
 use Rattle.si_unify.proofs.Comparing.{grows_on}
 use Rattle.si_descend.proofs.search.+searching.Goals as goal
@@ -54,6 +59,8 @@ visit_in_order-loop-place-init t c = record {
   same_pairs = refl;
   same_slots = refl;
   same_taken = refl;
+  no_less_room = same_room c.args.scratch.now;
+  no_less_place = omega arith;
 }
 
 pub visit_in_order-child_in_order-requires-clause-attempts : goal.visit_in_order-child_in_order-requires-clause-attempts
@@ -68,6 +75,8 @@ visit_in_order-loop-place-preserved-in_default t c = record {
   same_pairs = c.loop-place.invariant.same_pairs;
   same_slots = c.loop-place.invariant.same_slots;
   same_taken = c.loop-place.invariant.same_taken;
+  no_less_room = c.loop-place.invariant.no_less_room;
+  no_less_place = c.loop-place.invariant.no_less_place;
 }
 
 pub visit_in_order-visit-requires : goal.visit_in_order-visit-requires
@@ -83,6 +92,8 @@ visit_in_order-loop-place-preserved t c = record {
   same_pairs = c.in_ok-count.ensures.returns.same ∙ c.loop-place.invariant.same_pairs;
   same_slots = c.in_ok-count.ensures.returns.count ∙ c.loop-place.invariant.same_slots;
   same_taken = c.in_ok-count.ensures.returns.noted ∙ c.loop-place.invariant.same_taken;
+  no_less_room = room_on c.args.scratch.now c.loop-place.scratch c.visit.new.scratch c.loop-place.invariant.no_less_room c.in_ok-count.ensures.keeps;
+  no_less_place = omega (arith, c.loop-place.invariant.no_less_place, c.in_ok-count.ensures.room);
 }
 
 pub visit_in_order-overflow_add-count : goal.visit_in_order-overflow_add-count
@@ -109,6 +120,8 @@ visit_by_heads-loop-place-init t c = record {
   same_pairs = refl;
   same_slots = refl;
   same_taken = refl;
+  no_less_room = same_room c.args.scratch.now;
+  no_less_place = omega arith;
 }
 
 pub visit_by_heads-child_by_head-requires-clause-attempts : goal.visit_by_heads-child_by_head-requires-clause-attempts
@@ -123,6 +136,8 @@ visit_by_heads-loop-place-preserved-in_default t c = record {
   same_pairs = c.loop-place.invariant.same_pairs;
   same_slots = c.loop-place.invariant.same_slots;
   same_taken = c.loop-place.invariant.same_taken;
+  no_less_room = c.loop-place.invariant.no_less_room;
+  no_less_place = c.loop-place.invariant.no_less_place;
 }
 
 pub visit_by_heads-visit-requires : goal.visit_by_heads-visit-requires
@@ -138,6 +153,8 @@ visit_by_heads-loop-place-preserved t c = record {
   same_pairs = c.in_ok-count.ensures.returns.same ∙ c.loop-place.invariant.same_pairs;
   same_slots = c.in_ok-count.ensures.returns.count ∙ c.loop-place.invariant.same_slots;
   same_taken = c.in_ok-count.ensures.returns.noted ∙ c.loop-place.invariant.same_taken;
+  no_less_room = room_on c.args.scratch.now c.loop-place.scratch c.visit.new.scratch c.loop-place.invariant.no_less_room c.in_ok-count.ensures.keeps;
+  no_less_place = omega (arith, c.loop-place.invariant.no_less_place, c.in_ok-count.ensures.room);
 }
 
 pub visit_by_heads-overflow_add-count : goal.visit_by_heads-overflow_add-count
@@ -157,3 +174,74 @@ visit_by_heads-returns-clause-found t c node has =
 
 pub visit_by_heads-returns-clause-out_grows : goal.visit_by_heads-returns-clause-out_grows
 visit_by_heads-returns-clause-out_grows t c = found_grows c.args.search.now c.requires.there.searching.ready c.loop-place.invariant.found_so_far.0 c.args.out.now.items c.loop-place.out.items c.loop-place.count c.loop-place.invariant.found_so_far.2
+
+pub visit_in_order-returns-in_err-count-clause-full : goal.visit_in_order-returns-in_err-count-clause-full
+visit_in_order-returns-in_err-count-clause-full t c =
+    let lack : AtNode c.args.search.now.tree.now c.args.node (λ parent. LacksRoomBelow c.args.search.now (children_of parent.content) c.args.trail.now.pairs c.args.scratch.now c.args.out.now) = λ node has n enough room. c.in_err-count.ensures.full n
+    (enough_back n c.args.search.now.tree.now c.args.search.now.slots c.args.trail.now.pairs c.loop-place.trail.pairs c.args.scratch.now c.loop-place.scratch c.loop-place.invariant.same_pairs c.loop-place.invariant.no_less_room enough)
+    (next_fits c.args.search.now c.requires.there.searching.ready c.args.node node has (InOrder c.args.scan) c.requires.attempts c.loop-place.place c.in-Some.child c.args.out.now c.loop-place.out c.loop-place.count c.loop-place-test.true c.in-Some.ensures.some c.loop-place.invariant.found_so_far c.loop-place.invariant.no_less_place room) in
+    on_err _ lack
+
+pub visit_in_order-returns-in_err-count-clause-keeps : goal.visit_in_order-returns-in_err-count-clause-keeps
+visit_in_order-returns-in_err-count-clause-keeps t c =
+    room_on c.args.scratch.now c.loop-place.scratch c.visit.new.scratch c.loop-place.invariant.no_less_room c.in_err-count.ensures.keeps
+
+pub visit_in_order-returns-in_err-count-clause-room : goal.visit_in_order-returns-in_err-count-clause-room
+visit_in_order-returns-in_err-count-clause-room t c = omega (arith, c.loop-place.invariant.no_less_place, c.in_err-count.ensures.room)
+
+pub visit_by_heads-returns-in_err-count-clause-full : goal.visit_by_heads-returns-in_err-count-clause-full
+visit_by_heads-returns-in_err-count-clause-full t c =
+    let lack : AtNode c.args.search.now.tree.now c.args.node (λ parent. LacksRoomBelow c.args.search.now (children_of parent.content) c.args.trail.now.pairs c.args.scratch.now c.args.out.now) = λ node has n enough room. c.in_err-count.ensures.full n
+    (enough_back n c.args.search.now.tree.now c.args.search.now.slots c.args.trail.now.pairs c.loop-place.trail.pairs c.args.scratch.now c.loop-place.scratch c.loop-place.invariant.same_pairs c.loop-place.invariant.no_less_room enough)
+    (next_fits c.args.search.now c.requires.there.searching.ready c.args.node node has (ByHeads c.args.heads) c.requires.attempts c.loop-place.place c.in-Some.child c.args.out.now c.loop-place.out c.loop-place.count c.loop-place-test.true c.in-Some.ensures.some c.loop-place.invariant.found_so_far c.loop-place.invariant.no_less_place room) in
+    on_err _ lack
+
+pub visit_by_heads-returns-in_err-count-clause-keeps : goal.visit_by_heads-returns-in_err-count-clause-keeps
+visit_by_heads-returns-in_err-count-clause-keeps t c =
+    room_on c.args.scratch.now c.loop-place.scratch c.visit.new.scratch c.loop-place.invariant.no_less_room c.in_err-count.ensures.keeps
+
+pub visit_by_heads-returns-in_err-count-clause-room : goal.visit_by_heads-returns-in_err-count-clause-room
+visit_by_heads-returns-in_err-count-clause-room t c = omega (arith, c.loop-place.invariant.no_less_place, c.in_err-count.ensures.room)
+
+pub visit-returns-in_err-enter-clause-full : goal.visit-returns-in_err-enter-clause-full
+visit-returns-in_err-enter-clause-full t c =
+    let lack : LacksRoom c.args.search.now c.args.node c.args.trail.now.pairs c.args.scratch.now c.args.out.now = λ n enough room. c.in_err-enter.ensures.full n enough in
+    on_err _ lack
+
+pub visit-returns-in_err-count-clause-full : goal.visit-returns-in_err-count-clause-full
+visit-returns-in_err-count-clause-full t c =
+    let lack : LacksRoom c.args.search.now c.args.node c.args.trail.now.pairs c.args.scratch.now c.args.out.now = λ n enough room. c.in_err-count.ensures.full n
+    (enough_still n c.args.search.now.tree.now c.args.search.now.slots c.args.trail.now.pairs c.enter.new.trail.pairs c.args.scratch.now c.enter.new.scratch (c.in_ok-enter.ensures.within n enough) c.enter.ensures.keeps enough) room in
+    on_err _ lack
+
+pub visit-returns-clause-keeps : goal.visit-returns-clause-keeps
+visit-returns-clause-keeps t c = room_on c.args.scratch.now c.enter.new.scratch c.visit_open.new.scratch c.enter.ensures.keeps c.visit_open.ensures.keeps
+
+pub visit-returns-in_err-count-clause-keeps : goal.visit-returns-in_err-count-clause-keeps
+visit-returns-in_err-count-clause-keeps t c = room_on c.args.scratch.now c.enter.new.scratch c.visit_open.new.scratch c.enter.ensures.keeps c.visit_open.ensures.keeps
+
+pub visit_open-returns-then-is_open_below-clause-full : goal.visit_open-returns-then-is_open_below-clause-full
+visit_open-returns-then-is_open_below-clause-full t c = on_err_weaker c.append_all.result (λ lack n enough. lack) c.append_all.ensures.full
+
+pub visit_open-returns-then-is_open_below-clause-keeps : goal.visit_open-returns-then-is_open_below-clause-keeps
+visit_open-returns-then-is_open_below-clause-keeps t c = same_room c.args.scratch.now
+
+pub visit_open-returns-in_err-append_to-clause-keeps : goal.visit_open-returns-in_err-append_to-clause-keeps
+visit_open-returns-in_err-append_to-clause-keeps t c = same_room c.args.scratch.now
+
+pub visit_open-returns-in_err-append_to-clause-full : goal.visit_open-returns-in_err-append_to-clause-full
+visit_open-returns-in_err-append_to-clause-full t c =
+    let node = c.requires.there.node in
+    let lack : LacksRoom c.args.search.now c.args.node c.args.trail.now.pairs c.args.scratch.now c.args.out.now = λ n enough room. no_place c.args.out.now (length (postings_of node.0.content)) (length c.postings.result)
+    (own_fit c.args.search.now c.requires.there.searching.ready c.args.node node.0 node.1 c.args.out.now c.requires.opened room)
+    c.in_err-append_to.ensures.full (ap length (c.postings.ensures node.0 node.1)) in
+    on_err _ lack
+
+pub visit_open-returns-in_err-below-clause-full : goal.visit_open-returns-in_err-below-clause-full
+visit_open-returns-in_err-below-clause-full t c =
+    let node = c.requires.there.node in
+    let lack : LacksRoom c.args.search.now c.args.node c.args.trail.now.pairs c.args.scratch.now c.args.out.now = λ n enough room. c.in_err-below.ensures.full node.0 node.1 n enough
+    (below_fits c.args.search.now c.requires.there.searching.ready c.args.node node.0 node.1 c.args.out.now c.append_to.new.others c.requires.opened
+    (postings_appended c.args.search.now c.requires.there.searching.ready c.args.node node.0 node.1 c.args.out.now.items c.append_to.new.others.items c.postings.result c.in_ok-append_to.ensures.ok (c.postings.ensures node.0 node.1))
+    c.append_to.ensures.keeps room) in
+    on_err _ lack

@@ -1,4 +1,5 @@
-use Rattle.std.proofs.Common.{◌≡◌, ◌+◌, ◌-◌, ◌*◌}
+use Rattle.std.proofs.Common.{◌≤◌, vec_capacity, ◌≡◌, ◌+◌, ◌-◌, ◌*◌}
+use Rattle.si_unify.specs.Rooms.{IsNoLessRoom}
 use Rattle.si_legal.specs.Counts.{node_count}
 use Rattle.si_descend.specs.Searching.{HasFoundBelow, depth}
 use Rattle.si_descend.specs.declared.attempts.Attempts.TheVariants.{InOrder, ByHeads}
@@ -20,11 +21,13 @@ decreases-visit_in_order l = 4 * (node_count l.search.now.tree.now - depth l.sea
 abbrev pub decreases-visit_by_heads : goal.decreases-visit_by_heads
 decreases-visit_by_heads l = 4 * (node_count l.search.now.tree.now - depth l.search.now.tree.now l.node)
 
-pub record Invariant (found pairs slots taken : Type 0) : Type 0 where
+pub record Invariant (found pairs slots taken kept wider : Type 0) : Type 0 where
   pub found_so_far : found
   pub same_pairs : pairs
   pub same_slots : slots
   pub same_taken : taken
+  pub no_less_room : kept
+  pub no_less_place : wider
 
 abbrev pub invariant-visit_in_order-loop-place : goal.invariant-visit_in_order-loop-place
 invariant-visit_in_order-loop-place l =
@@ -33,6 +36,8 @@ invariant-visit_in_order-loop-place l =
     (l.trail.pairs ≡ l.fn.trail.pairs)
     (l.trail.slots ≡ l.fn.trail.slots)
     (l.taken ≡ l.fn.taken)
+    (IsNoLessRoom l.fn.scratch l.scratch)
+    (vec_capacity l.fn.out ≤ vec_capacity l.out)
 
 abbrev pub invariant-visit_by_heads-loop-place : goal.invariant-visit_by_heads-loop-place
 invariant-visit_by_heads-loop-place l =
@@ -41,3 +46,5 @@ invariant-visit_by_heads-loop-place l =
     (l.trail.pairs ≡ l.fn.trail.pairs)
     (l.trail.slots ≡ l.fn.trail.slots)
     (l.taken ≡ l.fn.taken)
+    (IsNoLessRoom l.fn.scratch l.scratch)
+    (vec_capacity l.fn.out ≤ vec_capacity l.out)

@@ -1,5 +1,8 @@
-use Rattle.std.proofs.Common.{subst, arith}
+use Rattle.si_term.proofs.Results.{on_err}
+use Rattle.si_descend.specs.Lending.{IsEnoughForTree}
+use Rattle.std.proofs.Common.{ℕ, subst, arith}
 use Rattle.si_fit.specs.Fitting.{HasFitted}
+use Rattle.si_descend.proofs.EnoughLaws.{rows_short}
 use Rattle.si_descend.proofs.Entering.{entered_range, never_entered}
 use Rattle.si_descend.proofs.Opening.{entered_fresh}
 use Rattle.si_descend.proofs.Entered.{entered_plain, entered_variants, known_taken, notes_new, plain_notes, room_taken, instances_differ, generalizations_differ, unifiable_differ}
@@ -68,3 +71,34 @@ pub returns-in-Variants-clause-taken : goal.returns-in-Variants-clause-taken
 returns-in-Variants-clause-taken c told =
     notes_new c.args.search.now.relation c.args.search.now.slots c.fit.new.trail.pairs c.is_renaming.new.taken c.in-Variants.is (c.is_renaming.ensures.taken told)
     (omega (arith, c.is_renaming.ensures.slots, room_taken c.args.search.now.relation c.args.search.now.slots c.args.trail.now.pairs c.args.taken.now c.in-Variants.is c.requires.above.searching.noted))
+
+pub returns-in_err-fit-clause-full : goal.returns-in_err-fit-clause-full
+returns-in_err-fit-clause-full c =
+    let node = c.requires.above.node in
+    let lack : (n : ℕ) → IsEnoughForTree n c.args.search.now.tree.now c.args.search.now.slots c.args.trail.now.pairs c.args.scratch.now → ⊥ = λ n enough. c.in_err-fit.ensures.full n enough.values (rows_short n c.bindings.result.now node.0.bindings (c.bindings.ensures node.0 node.1) (enough.rights c.args.node node.0 node.1)) enough.solver in
+    on_err _ lack
+
+pub returns-then-not-branch-clause-within : goal.returns-then-not-branch-clause-within
+returns-then-not-branch-clause-within c n enough =
+    let node = c.requires.above.node in
+    c.fit.ensures.within n enough.values (rows_short n c.bindings.result.now node.0.bindings (c.bindings.ensures node.0 node.1) (enough.rights c.args.node node.0 node.1))
+
+pub returns-in-Variants-clause-within : goal.returns-in-Variants-clause-within
+returns-in-Variants-clause-within c n enough =
+    let node = c.requires.above.node in
+    c.fit.ensures.within n enough.values (rows_short n c.bindings.result.now node.0.bindings (c.bindings.ensures node.0 node.1) (enough.rights c.args.node node.0 node.1))
+
+pub returns-in-Instances-clause-within : goal.returns-in-Instances-clause-within
+returns-in-Instances-clause-within c n enough =
+    let node = c.requires.above.node in
+    c.fit.ensures.within n enough.values (rows_short n c.bindings.result.now node.0.bindings (c.bindings.ensures node.0 node.1) (enough.rights c.args.node node.0 node.1))
+
+pub returns-in-Generalizations-clause-within : goal.returns-in-Generalizations-clause-within
+returns-in-Generalizations-clause-within c n enough =
+    let node = c.requires.above.node in
+    c.fit.ensures.within n enough.values (rows_short n c.bindings.result.now node.0.bindings (c.bindings.ensures node.0 node.1) (enough.rights c.args.node node.0 node.1))
+
+pub returns-in-Unifiable-clause-within : goal.returns-in-Unifiable-clause-within
+returns-in-Unifiable-clause-within c n enough =
+    let node = c.requires.above.node in
+    c.fit.ensures.within n enough.values (rows_short n c.bindings.result.now node.0.bindings (c.bindings.ensures node.0 node.1) (enough.rights c.args.node node.0 node.1))

@@ -15,3 +15,4 @@ mod ClauseRooms
 pub mod ClauseLaws
 pub mod VariableLaws
 pub mod RowLaws
+pub mod WriterLaws

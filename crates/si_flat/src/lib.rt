@@ -23,7 +23,7 @@ pub use clauses::{ClauseBuffer, flatten_clauses};
 pub use flatten::{
     EntryBuffer, FlatQuery, NamedQuery, flatten_entry, flatten_pattern, flatten_with_names,
 };
-pub use met::{FIRST_EXTRA, with_sign};
+pub use met::FIRST_EXTRA;
 /// A relation by the name that calls on flat terms have for it.
 pub use si_defs::Relation as Kind;
 use si_term::list::Items;
@@ -31,7 +31,7 @@ use smallvec::SmallVec;
 use std::alloc::{AllocError, Global};
 use std::default::MadeWith;
 use std::marker::Model;
-pub use writer::QueryWriter;
+pub use writer::{Opened, QueryWriter};
 
 /// A map of literals: for each literal of a clause in order the number, from 1, of its image.
 pub type LitMap = Items<u32>;

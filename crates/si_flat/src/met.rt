@@ -181,8 +181,9 @@ impl<'a> Met<'a> {
     }
 }
 
-/// The number of a symbol in a literal: that of a negative literal's predicate is one above.
-pub fn with_sign(number: u32, positive: bool, side: Side) -> u32
+/// The number of a symbol in a literal: that of a negative literal's predicate is the one above its
+/// own.
+pub(crate) fn with_sign(number: u32, positive: bool, side: Side) -> u32
     requires { number < 2 ^ 32 - 1 }
     ensures { result ≡ cond positive number (one_above side number) }
 {

@@ -1,17 +1,19 @@
 // A query's term whose cells are written one after the other.
-ghost use Rattle.std.specs.Prelude.{◌≡◌, ◌<◌, ◌≤◌, ◌-◌, ◌^◌, Bool, [], ◌∷◌, ◌++◌, IfOk, OnOk, length, slice_set};
+ghost use Rattle.std.specs.Prelude.{◌≡◌, ◌<◌, ◌≤◌, ◌-◌, ◌^◌, IfOk, IfSome, OnOk, length};
 ghost use Rattle.si_defs.specs.Symbols.{Numbering};
 ghost use Rattle.si_defs.specs.Clauses.{IsSoundPattern, Pattern};
 ghost use Rattle.si_defs.specs.Terms as terms;
 ghost use Rattle.si_defs.specs.declared.TheConstants.{MOST_OCCURRENCES};
-ghost use Rattle.si_flat.specs.declared.Cell.TheVariants.{App, Query};
-ghost use Rattle.si_flat.specs.declared.Owner.TheVariants as owner;
+ghost use Rattle.si_term.specs.Terms.{symbol_of};
 ghost use Rattle.si_flat.specs.Flattened.{FlattensPattern};
-ghost use Rattle.si_flat.specs.Flattening.{empty_walk, entry_scheme, term_piece, Flattens, IsWritten, WritesPattern};
+ghost use Rattle.si_flat.specs.Flattening.{empty_walk, term_piece, IsWritten, WritesPattern};
+ghost use Rattle.si_flat.specs.Writing.{Opens, PutsSymbol, WritesPiece};
 
 use crate::flatten::FlatQuery;
+use crate::met::with_sign;
 use crate::walk::{FEW_CELLS, WrittenEntry, close};
 use crate::{Cell, Owner};
+use si_term::{Sym, SymTable};
 use std::alloc::{AllocError, Global};
 use std::marker::Model;
 
@@ -30,6 +32,20 @@ impl<'a> Model for QueryWriter<'a> {
     ghost view = { λ w. walk_state w.written.met w.written.cells.items };
 }
 
+/// The place of a symbol's cell that isn't written yet. Contracts see it.
+#[derive(Drop)]
+pub struct Opened {
+    place: usize,
+}
+
+impl Model for Opened {
+    ghost use Rattle.std.specs.Prelude.{ℕ};
+
+    ghost Value = { ℕ };
+
+    ghost view = { λ o. o.place };
+}
+
 impl<'a> QueryWriter<'a> {
     /// Nothing was written. There is room for the cells of most queries.
     pub fn new(alloc: Global) -> Result<QueryWriter<'a>, AllocError>
@@ -43,8 +59,7 @@ impl<'a> QueryWriter<'a> {
     /// Writes the cell of a variable.
     pub fn variable(&mut self, name: &'a [u8]) -> Result<(), AllocError>
         requires { length self.old.names ≤ MOST_OCCURRENCES }
-        ensures { OnOk result ((pairs : Numbering) (positive : Bool)
-            → Flattens pairs (entry_scheme owner.Query positive) self.old self.new
+        ensures { OnOk result ((pairs : Numbering) → WritesPiece pairs self.old self.new
             (term_piece (terms.var name.now))) }
     {
         let number = self.written.met.variable(name)?;
@@ -52,28 +67,33 @@ impl<'a> QueryWriter<'a> {
         Ok(())
     }
 
-    /// Writes a cell in the place of a symbol's, whose arguments come next, and tells the place.
-    pub fn open(&mut self) -> Result<usize, AllocError>
-        ensures names { OnOk result (self.new.names ≡ self.old.names) }
-        ensures extra { OnOk result (self.new.extra ≡ self.old.extra) }
-        ensures cells { OnOk result (self.new.cells ≡ self.old.cells ++ Query 0 ∷ []) }
-        ensures place { IfOk result (λ at. at ≡ length self.old.cells) }
+    /// Leaves a place for the cell of a symbol, whose arguments are written next.
+    pub fn open(&mut self) -> Result<Opened, AllocError>
+        ensures { IfOk result (λ opened. Opens opened self.old self.new) }
     {
-        let at = self.written.cells.len();
+        let place = self.written.cells.len();
         self.written.cells.push(Cell::Query(0))?;
-        Ok(at)
+        Ok(Opened { place })
     }
 
-    /// Puts the cell of a symbol in its place. Its arguments are all that was written after it.
-    pub fn close(&mut self, at: usize, number: u32, arity: u32)
-        requires inside { at < length self.old.cells }
-        requires short { length self.old.cells - at < 2 ^ 32 }
-        ensures names { self.new.names ≡ self.old.names }
-        ensures extra { self.new.extra ≡ self.old.extra }
-        ensures cells { self.new.cells ≡ slice_set self.old.cells at
-            (App number arity (length self.old.cells - at)) }
+    /// Puts the cell of a symbol in the place that was left for it. Its arguments are all that was
+    /// written after that. `None` where the table lacks the symbol.
+    pub fn close<T: SymTable>(
+        &mut self,
+        table: &T,
+        opened: Opened,
+        symbol: &Sym,
+        positive: bool,
+    ) -> Option<()>
+        requires inside { opened < length self.old.cells }
+        requires short { length self.old.cells - opened < 2 ^ 32 }
+        ensures { IfSome result (λ _. PutsSymbol (T.pairs table.now) (symbol_of symbol.now) positive
+            opened self.old self.new) }
     {
-        close(&mut self.written.cells, at, number, arity);
+        let number = table.id_of(symbol)?;
+        let signed = with_sign(number, positive, symbol.side);
+        close(&mut self.written.cells, opened.place, signed, symbol.arity);
+        Some(())
     }
 
     /// What was written, as the query of the pattern whose cells these are.

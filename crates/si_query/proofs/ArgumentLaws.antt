@@ -18,7 +18,8 @@ use Rattle.si_flat.specs.declared.Owner.TheVariants.{Query}
 use Rattle.si_flat.specs.Flattening.{WalkState, entry_scheme, terms_piece, Flattens}
 use Rattle.si_flat.proofs.Walking.{flattens_none}
 use Rattle.si_query.specs.Reading.{ReadsApplied, ReadsArguments, ReadsTerm, Spends}
-use Rattle.si_query.proofs.ReaderLaws.{flattens_end, flattens_one, spends_more, spends_none, spends_then}
+use Rattle.si_flat.proofs.WriterLaws.{writes_end, writes_one}
+use Rattle.si_query.proofs.ReaderLaws.{spends_more, spends_none, spends_then}
 
 -- Some arguments were read and written: what is left goes on as the tokens do.
 pub record IsAlong (pairs : Numbering) (tokens : List Lexeme) (old here : WalkState) (count : ℕ) (left : List Lexeme) : Type 0 where
@@ -40,7 +41,7 @@ module _ (pairs : Numbering) (tokens : List Lexeme) where
     done = h.term ∷ [];
     along = along_first IsTerm term_last term_goes_on term_stops h.read;
     counted = refl;
-    flat = λ p. flattens_one pairs p h.term old here (h.flat p);
+    flat = writes_one pairs h.term old here h.flat;
     fewer = omega (arith, h.fewer);
     spends = h.spends;
   }
@@ -52,7 +53,7 @@ module _ (pairs : Numbering) (tokens : List Lexeme) where
     done = k.done ++ h.term ∷ [];
     along = along_more IsTerm term_last term_goes_on term_stops k.along e h.read;
     counted = omega (arith, k.counted, length-append k.done (h.term ∷ []));
-    flat = λ p. flattens_end pairs p k.done h.term old here next (k.flat p) (h.flat p);
+    flat = writes_end pairs k.done h.term old here next k.flat h.flat;
     fewer = omega (arith, k.fewer, h.fewer, shorter_by comma left rest e);
     spends = spends_then tokens left behind old here next k.spends (spends_more 0 left rest behind behind here next h.spends (omega (arith, shorter_by comma left rest e)) (omega arith));
   }

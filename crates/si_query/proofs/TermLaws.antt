@@ -1,5 +1,5 @@
 -- Terms by their first token: what was read after it, and what was written.
-use Rattle.std.proofs.Common.{◌≡◌, ◌≤◌, Bool, true, List, [], ◌∷◌, ◌++◌, length, Result, refl, sym, ap, subst, arith, IfOk, length-append}
+use Rattle.std.proofs.Common.{◌≡◌, ◌≤◌, true, List, [], ◌∷◌, ◌++◌, length, Result, refl, sym, ap, subst, arith, IfOk, length-append}
 use Rattle.std.specs.Prelude.{Option, Some, None, IfSome, bytes_eq}
 use Rattle.std.specs.Borrow.{Bor}
 use Rattle.std.proofs.lemmas.Result.{IfOk-weaker}
@@ -21,7 +21,8 @@ use Rattle.si_term.proofs.Inserted.{inserted_length}
 use Rattle.si_flat.specs.declared.Owner.TheVariants.{Query}
 use Rattle.si_flat.specs.Cells.{variable_cell}
 use Rattle.si_flat.specs.Numbered.{place_in}
-use Rattle.si_flat.specs.Flattening.{owners_variable, WalkState, entry_scheme, term_piece, Flattens}
+use Rattle.si_flat.specs.Flattening.{owners_variable, WalkState, term_piece}
+use Rattle.si_flat.specs.Writing.{WritesPiece}
 use Rattle.si_query.specs.Reading.{ReadsHeaded, ReadsTerm, WritesConstant}
 use Rattle.si_query.proofs.ReaderLaws.{spends_head}
 
@@ -35,7 +36,7 @@ module _ (pairs : Numbering) (tokens : List Lexeme) (some : 1 ≤ length tokens)
 
   -- a variable
   pub variable_read : first.kind ≡ token.Upper
-      → ((numbers : Numbering) (positive : Bool) → Flattens numbers (entry_scheme Query positive) a b (term_piece (terms.var first.spelling.now)))
+      → ((numbers : Numbering) → WritesPiece numbers a b (term_piece (terms.var first.spelling.now)))
       → ReadsTerm pairs tokens a b (others_of tokens)
   variable_read upper written =
       let text : (token_of first).text ≡ first.spelling.now = ap (λ k. text_of k first.spelling.now) upper in

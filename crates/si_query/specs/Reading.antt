@@ -1,13 +1,12 @@
 -- What readers give that write cells as they read tokens. What was read is in si_parse's words, and
 -- what was written in si_flat's.
-use Rattle.std.specs.Prelude.{◌≡◌, ℕ, ◌+◌, ◌-◌, ◌^◌, ◌<◌, ◌≤◌, Bool, false, cond, List, length, Some, slice_set}
+use Rattle.std.specs.Prelude.{◌≡◌, ℕ, ◌+◌, ◌^◌, ◌<◌, ◌≤◌, Bool, false, List, length, Some}
 use Rattle.si_defs.specs.Bytes.{Bytes}
 use Rattle.si_defs.specs.Terms as terms
-use Rattle.si_defs.specs.Symbols.{Symbol, Numbering, IsNumbering}
+use Rattle.si_defs.specs.Symbols.{Numbering}
 use Rattle.si_defs.specs.Clauses as clauses
 use Rattle.si_defs.specs.Tokens.{Token}
 use Rattle.si_defs.specs.Grammar.{IsTerm, IsAtom, IsLiteral, IsHead}
-use Rattle.si_defs.specs.Substitutions.{IsAmong}
 use Rattle.si_defs.specs.declared.SymKind.{SymKind}
 use Rattle.si_defs.specs.declared.Side.TheVariants.{Predicate}
 use Rattle.si_defs.specs.declared.TokenKind.{TokenKind}
@@ -18,21 +17,21 @@ use Rattle.si_parse.specs.GrammarRules.{AreTerms, IsApplied, IsNegated, IsStatem
 use Rattle.si_parse.specs.Parsing.{ReadsTokens, NoBracket, NoSign, NoTerm}
 use Rattle.si_parse.specs.Reading.{IsWholePattern}
 use Rattle.si_parse.specs.declared.pattern.PatternKind.{PatternKind}
-use Rattle.si_flat.specs.declared.Cell.TheVariants.{App}
+use Rattle.si_parse.specs.declared.pattern.PatternKind.TheVariants.{Lit, Term}
 use Rattle.si_flat.specs.declared.Owner.TheVariants.{Query}
 use Rattle.si_flat.specs.declared.flatten.FlatQuery.{FlatQuery}
 use Rattle.si_flat.specs.Flattened.{FlattensPattern}
 use Rattle.si_flat.specs.Flattening.{WalkState, entry_scheme, term_piece, terms_piece, Flattens}
-use Rattle.si_flat.specs.Numbered.{one_above}
+use Rattle.si_flat.specs.Writing.{WritesPiece}
 
 -- the flat term of the pattern that all the tokens spell
 abbrev pub ReadsFlat : Numbering → List Token → PatternKind → FlatQuery → Type 0
 ReadsFlat pairs ts kind q =
     (p : clauses.Pattern) × IsWholePattern ts kind p × FlattensPattern pairs p q
 
--- ---- how much
--- A cell and a name may be written for each token, and so many cells more.
-pub record HasRoom (more : ℕ) (tokens : List Lexeme) (w : WalkState) : Type 0 where
+-- ---- how many more may be numbered
+-- There are numbers for a cell and a name for each token, and for so many cells more.
+pub record HasNumbersFor (more : ℕ) (tokens : List Lexeme) (w : WalkState) : Type 0 where
   pub names : length w.names + length tokens ≤ MOST_BYTES
   pub cells : length w.cells + (length tokens + more) ≤ 2 ^ 30
 
@@ -47,8 +46,7 @@ pub record ReadsTerm (pairs : Numbering) (tokens : List Lexeme) (old new : WalkS
     (rest : List Lexeme) : Type 0 where
   pub term : clauses.Term
   pub read : ReadsTokens IsTerm NoBracket (tokens_of tokens) (Some (term, tokens_of rest))
-  pub flat : (positive : Bool)
-      → Flattens pairs (entry_scheme Query positive) old new (term_piece term)
+  pub flat : WritesPiece pairs old new (term_piece term)
   pub fewer : length rest < length tokens
   pub spends : Spends 0 tokens rest old new
 
@@ -58,8 +56,7 @@ pub record ReadsHeaded (pairs : Numbering) (kind : SymKind) (text : Bytes) (toke
   pub term : clauses.Term
   pub read : ReadsTokens (IsApplied kind text) NoBracket (tokens_of tokens)
       (Some (term, tokens_of rest))
-  pub flat : (positive : Bool)
-      → Flattens pairs (entry_scheme Query positive) old new (term_piece term)
+  pub flat : WritesPiece pairs old new (term_piece term)
   pub fewer : length rest ≤ length tokens
   pub spends : Spends 1 tokens rest old new
 
@@ -67,7 +64,7 @@ pub record ReadsHeaded (pairs : Numbering) (kind : SymKind) (text : Bytes) (toke
 pub record WritesConstant (pairs : Numbering) (kind : SymKind) (text : Bytes)
     (tokens : List Lexeme) (old new : WalkState) (rest : List Lexeme) : Type 0 where
   pub left : rest ≡ tokens
-  pub flat : (positive : Bool) → Flattens pairs (entry_scheme Query positive) old new
+  pub flat : WritesPiece pairs old new
       (term_piece (terms.app (function_symbol kind text 0) terms.none))
   pub spends : Spends 1 tokens rest old new
 
@@ -78,8 +75,7 @@ pub record ReadsApplied (pairs : Numbering) (tokens : List Lexeme) (old new : Wa
   pub read : (kind : SymKind) (text : Bytes)
       → ReadsTokens (IsApplied kind text) NoBracket (tokens_of tokens)
       (Some (terms.app (function_symbol kind text arity) arguments, tokens_of rest))
-  pub flat : (positive : Bool)
-      → Flattens pairs (entry_scheme Query positive) old new (terms_piece arguments)
+  pub flat : WritesPiece pairs old new (terms_piece arguments)
   pub fewer : length rest ≤ length tokens
   pub spends : Spends 0 tokens rest old new
 
@@ -89,21 +85,9 @@ pub record ReadsArguments (pairs : Numbering) (tokens : List Lexeme) (old new : 
   pub arguments : List clauses.Term
   pub read : ReadsTokens AreTerms NoTerm (tokens_of tokens) (Some (arguments, tokens_of rest))
   pub counted : count ≡ length arguments
-  pub flat : (positive : Bool)
-      → Flattens pairs (entry_scheme Query positive) old new (terms_piece (terms.row arguments))
+  pub flat : WritesPiece pairs old new (terms_piece (terms.row arguments))
   pub fewer : length rest < length tokens
   pub spends : Spends 0 tokens rest old new
-
--- the cell of a symbol of the table stands in its place, before its arguments
-pub record IsClosed (pairs : Numbering) (s : Symbol) (positive : Bool) (at : ℕ)
-    (old new : WalkState) : Type 0 where
-  pub names : new.names ≡ old.names
-  pub extra : new.extra ≡ old.extra
-  pub number : ℕ
-  pub known : IsAmong pairs (s, number)
-  pub numbering : IsNumbering pairs
-  pub cells : new.cells ≡ slice_set old.cells at
-      (App (cond positive number (one_above s.side number)) s.arity (length old.cells - at))
 
 -- a token of one kind is the head of a symbol of the other, and the symbol may be a predicate
 pub record IsHeadKind (kind : TokenKind) (symbol : SymKind) : Type 0 where
@@ -142,3 +126,9 @@ pub record ReadsStatement (pairs : Numbering) (equal positive : Bool) (tokens : 
   pub read : ReadsTokens IsStatement NoSign (tokens_of tokens)
       (Some (statement equal atom, tokens_of rest))
   pub flat : Flattens pairs (entry_scheme Query positive) old new (term_piece atom)
+
+-- ---- patterns
+abbrev pub ReadsPattern : PatternKind → Numbering → List Lexeme → WalkState → WalkState
+    → List Lexeme → Type 0
+ReadsPattern Lit = ReadsLiteral
+ReadsPattern Term = ReadsTerm

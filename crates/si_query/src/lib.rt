@@ -8,8 +8,7 @@
 ghost use Rattle.std.specs.Prelude.{◌≤◌, IfOk, IfSome, length};
 ghost use Rattle.si_defs.specs.declared.TheConstants.{MOST_BYTES};
 ghost use Rattle.si_lex.specs.Lexemes.{tokens_of};
-ghost use Rattle.si_parse.specs.declared.pattern.PatternKind.TheVariants.{Lit, Term};
-ghost use Rattle.si_query.specs.Reading.{ReadsFlat};
+ghost use Rattle.si_query.specs.Reading.{HasNumbersFor, ReadsFlat, ReadsPattern};
 
 mod literals;
 mod terms;
@@ -22,10 +21,11 @@ use si_parse::pattern::PatternKind;
 use si_term::SymTable;
 use std::alloc::{AllocError, Global};
 
-/// The flat term of the pattern that all the tokens spell. `None` where they spell none, or where
-/// it has a symbol that the table lacks: then nothing is said.
+/// The flat term of the pattern that all the tokens spell. `None` says nothing: it comes where they
+/// spell none, or where the pattern has a symbol that the table lacks.
 ///
 /// # Errors
+///
 /// `AllocError` where memory runs out.
 pub fn read_flat<T: SymTable>(
     alloc: Global,
@@ -37,48 +37,30 @@ pub fn read_flat<T: SymTable>(
     ensures { IfOk result (λ read. IfSome read
         (ReadsFlat (T.pairs table.now) (tokens_of tokens.now) kind)) }
 {
+    let mut writer = QueryWriter::new(alloc)?;
+    let Some(rest) = pattern(alloc, table, tokens, kind, &mut writer)? else {
+        return Ok(None);
+    };
+    if !rest.is_empty() {
+        return Ok(None);
+    }
+    Ok(Some(writer.into_query(alloc)?))
+}
+
+/// The tokens after the pattern at the front, whose cells are written.
+fn pattern<'t, 'b, T: SymTable>(
+    alloc: Global,
+    table: &T,
+    tokens: &'t [Lexeme<'b>],
+    kind: PatternKind,
+    writer: &mut QueryWriter<'b>,
+) -> Result<Option<&'t [Lexeme<'b>]>, AllocError>
+    requires { HasNumbersFor 1 tokens.now writer.old }
+    ensures { IfOk result (λ read. IfSome read (λ rest. ReadsPattern kind (T.pairs table.now)
+        tokens.now writer.old writer.new rest.now)) }
+{
     match kind {
-        PatternKind::Lit => flat_literal(alloc, table, tokens),
-        PatternKind::Term => flat_term(alloc, table, tokens),
+        PatternKind::Lit => literal(alloc, table, tokens, writer),
+        PatternKind::Term => term(alloc, table, tokens, writer),
     }
-}
-
-/// The flat term of the literal that all the tokens spell.
-fn flat_literal<T: SymTable>(
-    alloc: Global,
-    table: &T,
-    tokens: &[Lexeme<'_>],
-) -> Result<Option<FlatQuery>, AllocError>
-    requires { length tokens.now ≤ MOST_BYTES }
-    ensures { IfOk result (λ read. IfSome read
-        (ReadsFlat (T.pairs table.now) (tokens_of tokens.now) Lit)) }
-{
-    let mut writer = QueryWriter::new(alloc)?;
-    let Some(rest) = literal(alloc, table, tokens, &mut writer)? else {
-        return Ok(None);
-    };
-    if !rest.is_empty() {
-        return Ok(None);
-    }
-    Ok(Some(writer.into_query(alloc)?))
-}
-
-/// The flat term of the term that all the tokens spell.
-fn flat_term<T: SymTable>(
-    alloc: Global,
-    table: &T,
-    tokens: &[Lexeme<'_>],
-) -> Result<Option<FlatQuery>, AllocError>
-    requires { length tokens.now ≤ MOST_BYTES }
-    ensures { IfOk result (λ read. IfSome read
-        (ReadsFlat (T.pairs table.now) (tokens_of tokens.now) Term)) }
-{
-    let mut writer = QueryWriter::new(alloc)?;
-    let Some(rest) = term(alloc, table, tokens, &mut writer)? else {
-        return Ok(None);
-    };
-    if !rest.is_empty() {
-        return Ok(None);
-    }
-    Ok(Some(writer.into_query(alloc)?))
 }

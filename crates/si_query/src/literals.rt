@@ -1,8 +1,8 @@
 // Literals at the front of tokens, whose cells are written as they are read.
 ghost use Rattle.std.specs.Prelude.{◌≡◌, ◌&&◌, IfOk, IfSome, not, true};
-ghost use Rattle.si_query.specs.Reading.{HasRoom, ReadsAtom, ReadsLiteral, ReadsNegated, ReadsStatement};
+ghost use Rattle.si_query.specs.Reading.{HasNumbersFor, ReadsAtom, ReadsLiteral, ReadsNegated, ReadsStatement};
 
-use crate::terms::{applied, close, head_kind, term};
+use crate::terms::{applied, head_kind, term};
 use si_defs::{Side, SymKind, TokenKind};
 use si_flat::QueryWriter;
 use si_lex::Lexeme;
@@ -17,7 +17,7 @@ pub(crate) fn literal<'t, 'b, T: SymTable>(
     tokens: &'t [Lexeme<'b>],
     writer: &mut QueryWriter<'b>,
 ) -> Result<Option<&'t [Lexeme<'b>]>, AllocError>
-    requires { HasRoom 1 tokens.now writer.old }
+    requires { HasNumbersFor 1 tokens.now writer.old }
     ensures { IfOk result (λ read. IfSome read (λ rest. ReadsLiteral (T.pairs table.now) tokens.now
         writer.old writer.new rest.now)) }
 {
@@ -37,7 +37,7 @@ fn negated<'t, 'b, T: SymTable>(
     tokens: &'t [Lexeme<'b>],
     writer: &mut QueryWriter<'b>,
 ) -> Result<Option<&'t [Lexeme<'b>]>, AllocError>
-    requires { HasRoom 1 tokens.now writer.old }
+    requires { HasNumbersFor 1 tokens.now writer.old }
     ensures { IfOk result (λ read. IfSome read (λ rest. ReadsNegated (T.pairs table.now) tokens.now
         writer.old writer.new rest.now)) }
 {
@@ -58,7 +58,7 @@ fn atom<'t, 'b, T: SymTable>(
     tokens: &'t [Lexeme<'b>],
     writer: &mut QueryWriter<'b>,
 ) -> Result<Option<&'t [Lexeme<'b>]>, AllocError>
-    requires { HasRoom 1 tokens.now writer.old }
+    requires { HasNumbersFor 1 tokens.now writer.old }
     ensures { IfOk result (λ read. IfSome read (λ rest. ReadsAtom (T.pairs table.now) tokens.now
         writer.old writer.new rest.now)) }
 {
@@ -69,7 +69,8 @@ fn atom<'t, 'b, T: SymTable>(
 }
 
 /// The literal without a tilde at the front: whether it is no inequality, and the tokens after it.
-/// The sign of an equation stands in no term, so it tells beforehand which of the two this is.
+/// The sign of an equation stands in no term. So where one comes, this is an equation or an
+/// inequality, and else a predicate.
 fn statement<'t, 'b, T: SymTable>(
     alloc: Global,
     table: &T,
@@ -77,7 +78,7 @@ fn statement<'t, 'b, T: SymTable>(
     tokens: &'t [Lexeme<'b>],
     writer: &mut QueryWriter<'b>,
 ) -> Result<Option<(bool, &'t [Lexeme<'b>])>, AllocError>
-    requires { HasRoom 1 tokens.now writer.old }
+    requires { HasNumbersFor 1 tokens.now writer.old }
     ensures { IfOk result (λ read. IfSome read (λ r. ReadsStatement (T.pairs table.now) r.0
         (r.0 && not denied) tokens.now writer.old writer.new r.1.now)) }
 {
@@ -108,11 +109,11 @@ fn equation<'t, 'b, T: SymTable>(
     tokens: &'t [Lexeme<'b>],
     writer: &mut QueryWriter<'b>,
 ) -> Result<Option<(bool, &'t [Lexeme<'b>])>, AllocError>
-    requires { HasRoom 1 tokens.now writer.old }
+    requires { HasNumbersFor 1 tokens.now writer.old }
     ensures { IfOk result (λ read. IfSome read (λ r. ReadsStatement (T.pairs table.now) r.0
         (r.0 && not denied) tokens.now writer.old writer.new r.1.now)) }
 {
-    let at = writer.open()?;
+    let opened = writer.open()?;
     let Some(behind) = term(alloc, table, tokens, writer)? else {
         return Ok(None);
     };
@@ -128,14 +129,13 @@ fn equation<'t, 'b, T: SymTable>(
         kind: SymKind::Equal,
         side: Side::Predicate,
     };
-    if close(table, &symbol, is_positive(equal, denied), at, writer) {
-        Ok(Some((equal, rest)))
-    } else {
-        Ok(None)
-    }
+    let Some(()) = writer.close(table, opened, &symbol, is_positive(equal, denied)) else {
+        return Ok(None);
+    };
+    Ok(Some((equal, rest)))
 }
 
-/// Whether a literal is positive that is no inequality, or is one, and is denied or isn't.
+/// Whether a literal is positive: it is no inequality, and it isn't denied.
 fn is_positive(equal: bool, denied: bool) -> bool
     ensures { result ≡ (equal && not denied) }
 {
@@ -150,7 +150,7 @@ fn predicate<'t, 'b, T: SymTable>(
     tokens: &'t [Lexeme<'b>],
     writer: &mut QueryWriter<'b>,
 ) -> Result<Option<&'t [Lexeme<'b>]>, AllocError>
-    requires { HasRoom 1 tokens.now writer.old }
+    requires { HasNumbersFor 1 tokens.now writer.old }
     ensures { IfOk result (λ read. IfSome read (λ rest. ReadsStatement (T.pairs table.now) true
         positive tokens.now writer.old writer.new rest.now)) }
 {
@@ -160,7 +160,7 @@ fn predicate<'t, 'b, T: SymTable>(
     let Some(kind) = head_kind(head.kind) else {
         return Ok(None);
     };
-    let at = writer.open()?;
+    let opened = writer.open()?;
     let Some((arity, rest)) = applied(alloc, table, behind, writer)? else {
         return Ok(None);
     };
@@ -173,9 +173,8 @@ fn predicate<'t, 'b, T: SymTable>(
         kind,
         side: Side::Predicate,
     };
-    if close(table, &symbol, positive, at, writer) {
-        Ok(Some(rest))
-    } else {
-        Ok(None)
-    }
+    let Some(()) = writer.close(table, opened, &symbol, positive) else {
+        return Ok(None);
+    };
+    Ok(Some(rest))
 }

@@ -1,18 +1,17 @@
 // Terms at the front of tokens, whose cells are written as they are read.
-ghost use Rattle.std.specs.Prelude.{◌<◌, ◌-◌, ◌^◌, IfOk, IfSome, IsTrue, length};
+ghost use Rattle.std.specs.Prelude.{IfOk, IfSome};
 ghost use Rattle.si_defs.specs.declared.TokenKind.{TokenKind};
 ghost use Rattle.si_lex.specs.Lexemes.{token_of};
-ghost use Rattle.si_term.specs.Terms.{symbol_of};
-ghost use Rattle.si_query.specs.Reading.{HasRoom, IsClosed, IsHeadKind, ReadsApplied, ReadsArguments, ReadsHeaded, ReadsTerm, WritesConstant};
+ghost use Rattle.si_query.specs.Reading.{HasNumbersFor, IsHeadKind, ReadsApplied, ReadsArguments, ReadsHeaded, ReadsTerm, WritesConstant};
 
 use si_defs::{Side, SymKind, TokenKind};
-use si_flat::{QueryWriter, with_sign};
+use si_flat::QueryWriter;
 use si_lex::Lexeme;
 use si_parse::grammar::mark_at;
 use si_term::{Sym, SymTable};
 use std::alloc::{AllocError, Global};
 
-/// The tokens after the term at the front, whatever stands there. The term's cells are written.
+/// The tokens after the term at the front, whatever comes next. The term's cells are written.
 #[cycle(reading)]
 pub(crate) fn term<'t, 'b, T: SymTable>(
     alloc: Global,
@@ -20,7 +19,7 @@ pub(crate) fn term<'t, 'b, T: SymTable>(
     tokens: &'t [Lexeme<'b>],
     writer: &mut QueryWriter<'b>,
 ) -> Result<Option<&'t [Lexeme<'b>]>, AllocError>
-    requires { HasRoom 0 tokens.now writer.old }
+    requires { HasNumbersFor 0 tokens.now writer.old }
     ensures { IfOk result (λ read. IfSome read (λ rest.
         ReadsTerm (T.pairs table.now) tokens.now writer.old writer.new rest.now)) }
 {
@@ -50,22 +49,21 @@ fn constant<'t, 'b, T: SymTable>(
     rest: &'t [Lexeme<'b>],
     writer: &mut QueryWriter<'b>,
 ) -> Result<Option<&'t [Lexeme<'b>]>, AllocError>
-    requires { HasRoom 1 rest.now writer.old }
+    requires { HasNumbersFor 1 rest.now writer.old }
     ensures { IfOk result (λ read. IfSome read (λ left. WritesConstant (T.pairs table.now) kind
         (token_of token.now).text rest.now writer.old writer.new left.now)) }
 {
-    let at = writer.open()?;
+    let opened = writer.open()?;
     let symbol = Sym {
         text: token.text(alloc)?,
         arity: 0,
         kind,
         side: Side::Function,
     };
-    if close(table, &symbol, true, at, writer) {
-        Ok(Some(rest))
-    } else {
-        Ok(None)
-    }
+    let Some(()) = writer.close(table, opened, &symbol, true) else {
+        return Ok(None);
+    };
+    Ok(Some(rest))
 }
 
 /// A head with the arguments that stand after it, if any do.
@@ -78,11 +76,11 @@ fn application<'t, 'b, T: SymTable>(
     tokens: &'t [Lexeme<'b>],
     writer: &mut QueryWriter<'b>,
 ) -> Result<Option<&'t [Lexeme<'b>]>, AllocError>
-    requires { HasRoom 1 tokens.now writer.old }
+    requires { HasNumbersFor 1 tokens.now writer.old }
     ensures { IfOk result (λ read. IfSome read (λ rest. ReadsHeaded (T.pairs table.now) kind
         (token_of head.now).text tokens.now writer.old writer.new rest.now)) }
 {
-    let at = writer.open()?;
+    let opened = writer.open()?;
     let Some((arity, rest)) = applied(alloc, table, tokens, writer)? else {
         return Ok(None);
     };
@@ -92,11 +90,10 @@ fn application<'t, 'b, T: SymTable>(
         kind,
         side: Side::Function,
     };
-    if close(table, &symbol, true, at, writer) {
-        Ok(Some(rest))
-    } else {
-        Ok(None)
-    }
+    let Some(()) = writer.close(table, opened, &symbol, true) else {
+        return Ok(None);
+    };
+    Ok(Some(rest))
 }
 
 /// How many arguments stand after a head, and the tokens after them. None are there without a
@@ -108,7 +105,7 @@ pub(crate) fn applied<'t, 'b, T: SymTable>(
     tokens: &'t [Lexeme<'b>],
     writer: &mut QueryWriter<'b>,
 ) -> Result<Option<(u32, &'t [Lexeme<'b>])>, AllocError>
-    requires { HasRoom 0 tokens.now writer.old }
+    requires { HasNumbersFor 0 tokens.now writer.old }
     ensures { IfOk result (λ read. IfSome read (λ r. ReadsApplied (T.pairs table.now) tokens.now
         writer.old writer.new r.0 r.1.now)) }
 {
@@ -132,7 +129,7 @@ fn arguments<'t, 'b, T: SymTable>(
     tokens: &'t [Lexeme<'b>],
     writer: &mut QueryWriter<'b>,
 ) -> Result<Option<(u32, &'t [Lexeme<'b>])>, AllocError>
-    requires { HasRoom 0 tokens.now writer.old }
+    requires { HasNumbersFor 0 tokens.now writer.old }
     ensures { IfOk result (λ read. IfSome read (λ r. ReadsArguments (T.pairs table.now) tokens.now
         writer.old writer.new r.0 r.1.now)) }
 {
@@ -149,28 +146,6 @@ fn arguments<'t, 'b, T: SymTable>(
         count += 1;
     }
     Ok(Some((count, left)))
-}
-
-/// Puts the cell of a symbol before its arguments, which are all that was written after the place.
-/// `false` where the table lacks the symbol.
-pub(crate) fn close<T: SymTable>(
-    table: &T,
-    symbol: &Sym,
-    positive: bool,
-    at: usize,
-    writer: &mut QueryWriter<'_>,
-) -> bool
-    requires inside { at < length writer.old.cells }
-    requires short { length writer.old.cells - at < 2 ^ 32 }
-    ensures { IsTrue result → IsClosed (T.pairs table.now) (symbol_of symbol.now) positive at
-        writer.old writer.new }
-{
-    let Some(number) = table.id_of(symbol) else {
-        return false;
-    };
-    let signed = with_sign(number, positive, symbol.side);
-    writer.close(at, signed, symbol.arity);
-    true
 }
 
 /// The kind of the symbol that a token is as a head, before arguments or alone.

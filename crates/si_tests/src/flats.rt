@@ -1,14 +1,17 @@
 // Flat terms, and entries and patterns as such.
-ghost use Rattle.std.specs.Prelude.{◌≡◌, [], ◌∷◌, IfOk, length};
+ghost use Rattle.std.specs.Prelude.{◌≡◌, ◌≤◌, [], ◌∷◌, IfOk, length};
 ghost use Rattle.si_defs.specs.Clauses.{IsSoundPattern};
 ghost use Rattle.si_defs.specs.Symbols.{same_symbol};
 ghost use Rattle.si_defs.specs.declared.SymKind.TheVariants.{Word};
+ghost use Rattle.si_defs.specs.declared.TheConstants.{MOST_BYTES};
 ghost use Rattle.si_flat.specs.Cells.{IsWhole};
 ghost use Rattle.si_term.specs.Meaning.{pattern_of};
 ghost use Rattle.si_term.specs.Terms.{symbol_of};
 
 use si_flat::{Cell, EntryBuffer, Flat, flatten_entry, flatten_pattern, sub};
+use si_lex::lex;
 use si_parse::pattern::PatternKind;
+use si_query::read_flat;
 use si_term::{Pattern, Side, Sym, SymKind, SymTable, Text};
 use si_texts::pattern_in;
 use std::alloc::{AllocError, Global};
@@ -204,5 +207,30 @@ fn symbols_outside_the_table(rt: HostRuntime) -> Result<(), Fail> {
         Cell::Query(1),
     ];
     assert_pattern(&rt, rt.alloc(), text, (&want, 2))?;
+    Ok(())
+}
+
+/// What is read of a literal straight from its tokens, over the table of one symbol, and nothing
+/// where `due` is empty.
+fn assert_read(rt: &impl Abort, alloc: Global, text: &[u8], due: &[Cell]) -> Result<(), AllocError>
+    requires { length text.now ≤ MOST_BYTES }
+{
+    let table = table(alloc)?;
+    let lexing = lex(alloc, text, 0)?;
+    match read_flat(alloc, &table, lexing.tokens.as_slice(), PatternKind::Lit)? {
+        Some(query) => assert_eq!(rt; query.flat.cells(), due),
+        None => assert!(rt; due.is_empty()),
+    }
+    Ok(())
+}
+
+#[test]
+fn literals_read_from_their_tokens(rt: HostRuntime) -> Result<(), Fail> {
+    let same = [cell(5, 2, 3), Cell::Query(0), Cell::Query(0)];
+    assert_read(&rt, rt.alloc(), b"~p(X,X)", &same)?;
+    let apart = [cell(4, 2, 3), Cell::Query(0), Cell::Query(1)];
+    assert_read(&rt, rt.alloc(), b"p(X,Y)", &apart)?;
+    assert_read(&rt, rt.alloc(), b"p(X)", &[])?;
+    assert_read(&rt, rt.alloc(), b"p(X,Y)p", &[])?;
     Ok(())
 }

@@ -1,4 +1,4 @@
-use Rattle.std.proofs.Common.{true, [], ◌∷◌, ap, subst, ◌∙◌, arith, length, length-append}
+use Rattle.std.proofs.Common.{[], ◌∷◌, ap, subst, ◌∙◌, arith, length, length-append}
 use Rattle.si_defs.specs.Terms as terms
 use Rattle.si_defs.specs.Grammar.{equality}
 use Rattle.si_defs.specs.declared.SymKind.TheVariants.{Equal}
@@ -9,7 +9,8 @@ use Rattle.si_parse.proofs.GrammarLiterals.{statement_sides}
 use Rattle.si_flat.specs.declared.Cell.TheVariants.{Query}
 use Rattle.si_flat.specs.declared.Owner.TheVariants as owner
 use Rattle.si_flat.specs.Flattening.{Flattens, entry_scheme, term_piece}
-use Rattle.si_query.proofs.ReaderLaws.{IsOpened, behind_place, closed_predicate, flattens_two}
+use Rattle.si_flat.proofs.WriterLaws.{inside_written, writes_two}
+use Rattle.si_query.proofs.ReaderLaws.{closed_predicate}
 use Rattle.si_query.proofs.TermLaws.{found}
 use Rattle.si_query.proofs.literals.equation.Goals as goal
 
@@ -18,14 +19,8 @@ close-requires-clause-inside g c =
     let pairs = g.T.SymTable.pairs c.args.table.now in
     let h = found _ c.in_ok-behind.ensures c.in-Some.is in
     let k = found _ c.in_ok-rest.ensures c.in-Some-2.is in
-    let opened : IsOpened c.in_ok-at.at (Query 0) c.args.writer.now c.open.new.self = record {
-      names = c.in_ok-at.ensures.names;
-      extra = c.in_ok-at.ensures.extra;
-      cells = c.in_ok-at.ensures.cells;
-      place = c.in_ok-at.ensures.place;
-    } in
-    behind_place pairs c.in_ok-at.at (Query 0) c.args.writer.now c.open.new.self c.term-2.new.writer opened (terms.row (h.term ∷ k.term ∷ [])) true
-    (flattens_two pairs true h.term k.term c.open.new.self c.term.new.writer c.term-2.new.writer (h.flat true) (k.flat true))
+    inside_written pairs _ c.args.writer.now c.open.new.self c.term-2.new.writer c.in_ok-opened.ensures (terms.row (h.term ∷ k.term ∷ []))
+    (writes_two pairs h.term k.term c.open.new.self c.term.new.writer c.term-2.new.writer h.flat k.flat)
 
 pub close-requires-clause-short : goal.close-requires-clause-short
 close-requires-clause-short g c =
@@ -36,30 +31,24 @@ close-requires-clause-short g c =
       h.spends.cells,
       k.spends.cells,
       left_shorter c.in-Some.behind.now c.in-Some-sign.next.now c.in-Some-sign.ensures,
-      ap length c.in_ok-at.ensures.cells,
+      ap length c.in_ok-opened.ensures.cells,
       length-append c.args.writer.now.cells (Query 0 ∷ []),
       c.requires.cells,
     )
 
-pub returns-then-close : goal.returns-then-close
-returns-then-close g c =
+pub returns : goal.returns
+returns g c =
     let pairs = g.T.SymTable.pairs c.args.table.now in
     let h = found _ c.in_ok-behind.ensures c.in-Some.is in
     let k = found _ c.in_ok-rest.ensures c.in-Some-2.is in
-    let opened : IsOpened c.in_ok-at.at (Query 0) c.args.writer.now c.open.new.self = record {
-      names = c.in_ok-at.ensures.names;
-      extra = c.in_ok-at.ensures.extra;
-      cells = c.in_ok-at.ensures.cells;
-      place = c.in_ok-at.ensures.place;
-    } in
-    let closed = c.close.ensures c.if-close.true in
+    let put = found _ c.close.ensures c.in-Some-close.is in
     let p = c.is_positive.result in
     record {
       atom = equation h.term k.term;
       read = statement_sides h.read c.in-Some-sign.ensures k.read;
       flat =
-          subst (λ positive. Flattens pairs (entry_scheme owner.Query positive) c.args.writer.now c.close.new.writer (term_piece (equation h.term k.term))) c.is_positive.ensures
-          (closed_predicate pairs c.in_ok-at.at (Query 0) c.args.writer.now c.open.new.self c.term-2.new.writer opened (terms.row (h.term ∷ k.term ∷ [])) _ equality p c.close.new.writer
-          (ap (λ x. record { kind = Equal; text = x; side = Predicate; arity = 2 }) (c.in_ok-from_bytes.ensures ∙ c.as_slice.ensures)) closed
-          (flattens_two pairs p h.term k.term c.open.new.self c.term.new.writer c.term-2.new.writer (h.flat p) (k.flat p)));
+          subst (λ positive. Flattens pairs (entry_scheme owner.Query positive) c.args.writer.now c.close.new.self (term_piece (equation h.term k.term))) c.is_positive.ensures
+          (closed_predicate pairs _ c.args.writer.now c.open.new.self c.term-2.new.writer c.close.new.self c.in_ok-opened.ensures (terms.row (h.term ∷ k.term ∷ [])) _ equality p
+          (ap (λ x. record { kind = Equal; text = x; side = Predicate; arity = 2 }) (c.in_ok-from_bytes.ensures ∙ c.as_slice.ensures)) put
+          (writes_two pairs h.term k.term c.open.new.self c.term.new.writer c.term-2.new.writer h.flat k.flat));
     }

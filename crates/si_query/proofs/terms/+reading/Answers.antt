@@ -5,8 +5,8 @@ use Rattle.si_lex.specs.Lexemes.{token_of}
 use Rattle.si_parse.specs.GrammarRules.{function_symbol}
 use Rattle.si_parse.proofs.ParseReads.{mark_front, mark_none, token_at}
 use Rattle.si_parse.proofs.GrammarTerms.{symbol_kind}
-use Rattle.si_flat.specs.declared.Cell.TheVariants.{Query}
-use Rattle.si_query.proofs.ReaderLaws.{IsOpened, behind_place, closed_function, spends_closed}
+use Rattle.si_flat.proofs.WriterLaws.{inside_written}
+use Rattle.si_query.proofs.ReaderLaws.{closed_function, spends_closed}
 use Rattle.si_query.proofs.TermLaws.{found, variable_read, constant_read, headed_read}
 use Rattle.si_query.proofs.ArgumentLaws.{along_start, along_next, along_end, applied_none, applied_all}
 use Rattle.si_query.proofs.terms.+reading.Goals as goal
@@ -15,37 +15,25 @@ use Rattle.si_query.proofs.terms.+reading.Goals as goal
 pub application-close-requires-clause-inside : goal.application-close-requires-clause-inside
 application-close-requires-clause-inside g t c =
     let h = found _ c.in_ok-arity.ensures c.in-Some.is in
-    let opened : IsOpened c.in_ok-at.at (Query 0) c.args.writer.now c.open.new.self = record {
-      names = c.in_ok-at.ensures.names;
-      extra = c.in_ok-at.ensures.extra;
-      cells = c.in_ok-at.ensures.cells;
-      place = c.in_ok-at.ensures.place;
-    } in
-    behind_place (g.T.SymTable.pairs c.args.table.now) c.in_ok-at.at (Query 0) c.args.writer.now c.open.new.self c.applied.new.writer opened h.arguments true (h.flat true)
+    inside_written (g.T.SymTable.pairs c.args.table.now) _ c.args.writer.now c.open.new.self c.applied.new.writer c.in_ok-opened.ensures h.arguments h.flat
 
-pub application-returns-then-close : goal.application-returns-then-close
-application-returns-then-close g t c =
+pub application-returns : goal.application-returns
+application-returns g t c =
     let pairs = g.T.SymTable.pairs c.args.table.now in
     let a = c.args.writer.now in
     let b = c.open.new.self in
     let inside = c.applied.new.writer in
-    let d = c.close.new.writer in
-    let at = c.in_ok-at.at in
+    let d = c.close.new.self in
     let h = found _ c.in_ok-arity.ensures c.in-Some.is in
-    let opened : IsOpened at (Query 0) a b = record {
-      names = c.in_ok-at.ensures.names;
-      extra = c.in_ok-at.ensures.extra;
-      cells = c.in_ok-at.ensures.cells;
-      place = c.in_ok-at.ensures.place;
-    } in
-    let closed = c.close.ensures c.if-close.true in
+    let opened = c.in_ok-opened.ensures in
+    let put = found _ c.close.ensures c.in-Some-close.is in
     let text = (token_of c.args.head.now).text in
     record {
       term = terms.app (function_symbol c.args.kind text c.in-Some.arity) h.arguments;
       read = h.read c.args.kind text;
-      flat = λ p. closed_function pairs at (Query 0) a b inside opened h.arguments c.args.kind text c.in-Some.arity _ d (ap (λ x. function_symbol c.args.kind x c.in-Some.arity) c.in_ok-text.ensures) closed p (h.flat p);
+      flat = closed_function pairs _ a b inside d opened h.arguments c.args.kind text c.in-Some.arity _ (ap (λ x. function_symbol c.args.kind x c.in-Some.arity) c.in_ok-text.ensures) put h.flat;
       fewer = h.fewer;
-      spends = spends_closed pairs _ true at (Query 0) a b inside d opened h.spends closed;
+      spends = spends_closed pairs _ true _ a b inside d opened h.spends put;
     }
 
 -- ---- arguments

@@ -213,9 +213,3 @@ is_query k numbers literal q p sound asks same flat = record {
   asks = asks;
   flat = subst (λ ns. FlattensPattern ns p q) same flat;
 }
-
--- what is told of each pattern with this flat query, of one
-pub explained_of : {E : Type 0} (k : Kept) (relation : Relation) (literal : Bool) (q : FlatQuery) (p : Pattern) (r : Result Explained E)
-    → IfOk r (ExplainsFlat k relation literal q) → IsQueryOf k literal q p → IfOk r (Explains k relation p)
-explained_of k relation literal q p (Ok e) told is = told p is
-explained_of k relation literal q p (Err x) told is = tt

@@ -27,15 +27,24 @@ AreMappedFrom P k (c ∷ cs) ms =
     × AreMappedFrom P (suc k) cs others × (ms ≡ m ∷ others))
     ⊎ (((ns : List ℕ) → P c.literals ns → ⊥) × AreMappedFrom P (suc k) cs ms)
 
+-- what maps go from, and what they go to
+abbrev pub from_to : {A : Type 0} → Direction → (formula clause : A) → A × A
+from_to ToFormula formula clause = (clause, formula)
+from_to FromFormula formula clause = (formula, clause)
+
 -- a map from the literals of a clause to those of the formula, or the other way
 abbrev pub IsMapIn : Direction → List Literal → List Literal → List ℕ → Type 0
-IsMapIn ToFormula formula ls = IsMap ls formula
-IsMapIn FromFormula formula ls = IsMap formula ls
+IsMapIn direction formula ls = IsMap (from_to direction formula ls).0 (from_to direction formula ls).1
 
 -- The formula's variables are an entry's where clauses are taken to it, and else a query's.
 abbrev pub formula_owner : Direction → Owner
 formula_owner ToFormula = Entry
 formula_owner FromFormula = Query
+
+-- and a clause's the other way round
+abbrev pub clause_owner : Direction → Owner
+clause_owner ToFormula = Query
+clause_owner FromFormula = Entry
 
 -- the cells are the formula's, by the numbers of the signature
 pub record IsFlatFormula (direction : Direction) (formula : List Literal)

@@ -32,8 +32,8 @@ impl Index {
         self.explain_flat(relation, asks_literals(pattern), &query)
     }
 
-    /// The same for a query that was made flat before: whether literals are asked for, and its flat
-    /// term by the numbers of this index's signature.
+    /// The same for a query that was made flat before, by the numbers of this index's signature.
+    /// `literal` says whether literals are asked for.
     pub fn explain_flat(
         &self,
         relation: Relation,
@@ -43,7 +43,8 @@ impl Index {
         requires { IsSomeQuery self.now literal query.now }
         ensures { IfOk result (ExplainsFlat self.now relation literal query.now) }
     {
-        // So it is known that what is kept is sound, and that its entries are few.
+        // So it is known that what is kept is sound, that its entries are few, and that its symbols
+        // have these numbers.
         self.stats();
         self.signature();
         let trees = self.trees();

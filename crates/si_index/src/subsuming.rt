@@ -14,8 +14,7 @@ ghost use Rattle.si_index.specs.Holding.{Spares};
 ghost use Rattle.si_index.specs.Kept.{clauses_of};
 ghost use Rattle.si_index.specs.Slots.{HasSlots};
 ghost use Rattle.si_index.specs.Searching.{IsKnownClause};
-ghost use Rattle.si_index.specs.declared.subsuming.Direction.TheVariants.{ToFormula, FromFormula};
-ghost use Rattle.si_index.specs.Subsuming.{AreMappedFrom, HasMap, IsFlatFormula, IsMapIn, PassesIn, TriesSlot, TriesSlots, formula_owner};
+ghost use Rattle.si_index.specs.Subsuming.{AreMappedFrom, HasMap, IsFlatFormula, IsMapIn, PassesIn, TriesSlot, TriesSlots, clause_owner, formula_owner, from_to};
 
 use crate::holding::Holders;
 use crate::index::Index;
@@ -57,6 +56,26 @@ impl Direction {
             Direction::FromFormula => Owner::Query,
         }
     }
+
+    /// Whose variables those of a clause are.
+    fn clause_owner(self) -> Owner
+        ensures { result ≡ clause_owner self }
+    {
+        match self {
+            Direction::ToFormula => Owner::Query,
+            Direction::FromFormula => Owner::Entry,
+        }
+    }
+
+    /// What maps go from, and what they go to.
+    fn from_to<T: Copy>(self, formula: T, clause: T) -> (T, T)
+        ensures { result ≡ from_to self formula clause }
+    {
+        match self {
+            Direction::ToFormula => (clause, formula),
+            Direction::FromFormula => (formula, clause),
+        }
+    }
 }
 
 /// A formula, and what is asked of it and each clause.
@@ -75,53 +94,8 @@ struct FlatFormula<'a> {
 }
 
 impl<'a> Comparison<'a> {
-    /// The least map from a clause with these literals to the formula; `None` where there is none.
-    /// The clause is made flat only where signs and symbols allow a map.
-    fn map_to_formula<'b>(
-        &self,
-        flat: &FlatFormula<'_>,
-        literals: &'b Literals,
-        clause: &mut ClauseBuffer<'b>,
-    ) -> Result<Option<LitMap>, AllocError>
-        requires formula { AreSoundLiterals (map literal_of self.now.formula.now) }
-        requires literals { AreSoundLiterals (map literal_of literals.now) }
-        requires known { HaveNumbers (numbering flat.now.signature.now)
-            (literals_symbols (map literal_of literals.now)) }
-        requires flat { IsFlatFormula ToFormula (map literal_of self.now.formula.now) flat.now }
-        ensures { IfOk result (AnswersLeast (IsMap (map literal_of literals.now)
-            (map literal_of self.now.formula.now))) }
-    {
-        if !may_have_map(literals, self.formula) {
-            return Ok(None);
-        }
-        clause.fill(flat.signature, Owner::Query, literals.as_slice())?;
-        least_map_of(self.alloc, clause.cells(), flat.cells)
-    }
-
-    /// The least map from the formula to a clause, likewise.
-    fn map_from_formula<'b>(
-        &self,
-        flat: &FlatFormula<'_>,
-        literals: &'b Literals,
-        clause: &mut ClauseBuffer<'b>,
-    ) -> Result<Option<LitMap>, AllocError>
-        requires formula { AreSoundLiterals (map literal_of self.now.formula.now) }
-        requires literals { AreSoundLiterals (map literal_of literals.now) }
-        requires known { HaveNumbers (numbering flat.now.signature.now)
-            (literals_symbols (map literal_of literals.now)) }
-        requires flat { IsFlatFormula FromFormula (map literal_of self.now.formula.now) flat.now }
-        ensures { IfOk result (AnswersLeast (IsMap (map literal_of self.now.formula.now)
-            (map literal_of literals.now))) }
-    {
-        if !may_have_map(self.formula, literals) {
-            return Ok(None);
-        }
-        clause.fill(flat.signature, Owner::Entry, literals.as_slice())?;
-        least_map_of(self.alloc, flat.cells, clause.cells())
-    }
-
     /// The least map between the formula and a clause with these literals; `None` where there is
-    /// none.
+    /// none. The clause is made flat only where signs and symbols allow a map.
     fn answer<'b>(
         &self,
         flat: &FlatFormula<'_>,
@@ -137,10 +111,14 @@ impl<'a> Comparison<'a> {
         ensures { IfOk result (AnswersLeast (IsMapIn self.now.direction
             (map literal_of self.now.formula.now) (map literal_of literals.now))) }
     {
-        match self.direction {
-            Direction::ToFormula => self.map_to_formula(flat, literals, clause),
-            Direction::FromFormula => self.map_from_formula(flat, literals, clause),
+        let (from, to) = self.direction.from_to(self.formula, literals);
+        if !may_have_map(from, to) {
+            return Ok(None);
         }
+        let owner = self.direction.clause_owner();
+        clause.fill(flat.signature, owner, literals.as_slice())?;
+        let (from, to) = self.direction.from_to(flat.cells, clause.cells());
+        least_map_of(self.alloc, from, to)
     }
 
     /// Appends the slots whose rows allow a map.

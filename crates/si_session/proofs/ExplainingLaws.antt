@@ -1,5 +1,5 @@
 -- Queries that are made flat as their lines are read.
-use Rattle.std.proofs.Common.{◌≡◌, Bool, List, ◌∷◌, refl, subst}
+use Rattle.std.proofs.Common.{◌≡◌, Bool, List, ◌∷◌}
 use Rattle.si_defs.specs.Bytes.{Bytes}
 use Rattle.si_defs.specs.Clauses.{Pattern}
 use Rattle.si_defs.specs.Symbols.{Numbering}
@@ -14,30 +14,26 @@ use Rattle.si_lex.specs.Lexemes.{tokens_of}
 use Rattle.si_lex.specs.Lexing.{IsLexing}
 use Rattle.si_parse.specs.declared.pattern.PatternKind.{PatternKind}
 use Rattle.si_parse.specs.declared.pattern.PatternKind.TheVariants as kind
-use Rattle.si_flat.specs.Flattened.{FlattensPattern}
 use Rattle.si_flat.specs.declared.flatten.FlatQuery.{FlatQuery}
 use Rattle.si_query.specs.Reading.{ReadsFlat}
 use Rattle.si_index.specs.Kept.{Kept}
 use Rattle.si_index.specs.Explaining.{ExplainsFlat, IsQueryOf, IsSomeQuery}
 use Rattle.si_index.specs.declared.explain.Explained.{Explained}
+use Rattle.si_index.proofs.CountLaws.{is_query}
 use Rattle.si_session.specs.Commands.{kind_word}
-use Rattle.si_session.specs.Explained.{AreAskedFor, IsExplained}
+use Rattle.si_session.specs.Explained.{AsksForLiterals, IsExplained}
 use Rattle.si_session.proofs.CommandLaws.{explains_query, line_performs}
 
-module _ (k : Kept) (numbers : Numbering) (same : numbers ≡ k.numbers) (ts : List Token) (kind : PatternKind) (literal : Bool) (asks : AreAskedFor kind literal) (q : FlatQuery) (read : ReadsFlat numbers ts kind q) where
+module _ (k : Kept) (numbers : Numbering) (same : numbers ≡ k.numbers) (ts : List Token) (kind : PatternKind) (literal : Bool) (asks : AsksForLiterals kind literal) (q : FlatQuery) (read : ReadsFlat numbers ts kind q) where
   -- what was read is the query of the pattern that the tokens spell
-  is_query : IsQueryOf k literal q read.0
-  is_query = record {
-    sound = read.1.sound;
-    asks = asks read.0 read.1.of_kind;
-    flat = subst (λ ns. FlattensPattern ns read.0 q) same read.2;
-  }
+  is_read : IsQueryOf k literal q read.0
+  is_read = is_query k numbers literal q read.0 read.1.sound (asks read.0 read.1.of_kind) same read.2
 
   pub some_query : IsSomeQuery k literal q
-  some_query = (read.0, is_query)
+  some_query = (read.0, is_read)
 
   -- and what is told of that query is told of the line
   pub explained_line : (line : Bytes) (x : Lexing) (l : IsLexing line 0 x) (r : Relation) (e : Explained) → x.stop ≡ End
       → tokens_of x.tokens.items ≡ lower (command_text Explain) ∷ lower (relation_text r) ∷ lower (kind_word kind) ∷ ts → ExplainsFlat k r literal q e → IsExplained k line e
   explained_line line x l r e end these told =
-      (r, read.0, line_performs line x l (explain r read.0) end (explains_query (tokens_of x.tokens.items) ts r kind read.0 these read.1), told read.0 is_query)
+      (r, read.0, line_performs line x l (explain r read.0) end (explains_query (tokens_of x.tokens.items) ts r kind read.0 these read.1), told read.0 is_read)

@@ -1,4 +1,4 @@
--- What became of the sink where a query was explained.
+-- What is told of a query, and what became of the sink where it was.
 use Rattle.std.specs.Prelude.{◌≡◌, Bool, [], ◌∷◌, ◌⊎◌}
 use Rattle.si_defs.specs.Bytes.{Bytes}
 use Rattle.si_defs.specs.Clauses.{Pattern}
@@ -30,5 +30,5 @@ IsExplained index line e =
     × Explains index relation p e
 
 -- whether literals are asked for by patterns of this kind
-abbrev pub AreAskedFor : PatternKind → Bool → Type 0
-AreAskedFor kind literal = (p : Pattern) → IsOfKind kind p → literal ≡ asks_literals p
+abbrev pub AsksForLiterals : PatternKind → Bool → Type 0
+AsksForLiterals kind literal = (p : Pattern) → IsOfKind kind p → literal ≡ asks_literals p

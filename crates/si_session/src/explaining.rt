@@ -6,7 +6,7 @@ ghost use Rattle.si_lex.specs.Lexemes.{tokens_of};
 ghost use Rattle.si_steps.specs.Words.{command_text, relation_text};
 ghost use Rattle.si_steps.specs.declared.word.Word.TheVariants.{Explain};
 ghost use Rattle.si_session.specs.Commands.{kind_word};
-ghost use Rattle.si_session.specs.Explained.{AreAskedFor, IsExplained};
+ghost use Rattle.si_session.specs.Explained.{AsksForLiterals, IsExplained};
 
 use crate::command::kind_of;
 use crate::word::relation_of;
@@ -25,7 +25,7 @@ struct Question<'t, 'b> {
     pattern: &'t [Lexeme<'b>],
 }
 
-/// What the query of a line passes and answers, if the line is the command to explain one, whose
+/// What the query of a line passes and answers, if the line is the command to explain one, and its
 /// pattern has only symbols of kept clauses. `None` says nothing: the line is to be read as any
 /// other is.
 pub fn explained_at_once(alloc: Global, index: &Index, line: &[u8]) -> Option<Explained>
@@ -81,7 +81,7 @@ fn question_of<'t, 'b>(tokens: &'t [Lexeme<'b>]) -> Option<Question<'t, 'b>>
 
 /// Whether patterns of this kind ask for literals.
 fn asks_literals(kind: PatternKind) -> bool
-    ensures { AreAskedFor kind result }
+    ensures { AsksForLiterals kind result }
 {
     match kind {
         PatternKind::Lit => true,

@@ -26,7 +26,7 @@ use Rattle.si_flat.proofs.FirstPlaces.{among_firsts, firsts_among}
 use Rattle.si_term.proofs.Inserted.{inserted-firsts, inserted_length}
 use Rattle.si_flat.proofs.Walking.{variables_few}
 use Rattle.si_unify.proofs.Reading.{one_term}
-use Rattle.si_subsume.specs.Maps.{arguments, IsCellOf, AreOf, IsNoVariable, HasHeads, IsFlatMap, AnswersFlat}
+use Rattle.si_subsume.specs.Maps.{arguments, IsCellOf, AreOf, IsNoVariable, HasHeads, IsFlatMap, AnswersFlat, IsComparable}
 use Rattle.si_subsume.proofs.Texts.{IsPlaced, pattern_variable, entry_variable, flat_literal, raise, raised_stays, lower, lefts_lowered, literal_raised, literal_lowered}
 use Rattle.si_subsume.proofs.FlatMaps.{least_same}
 
@@ -186,14 +186,20 @@ pub record IsFlatBy (pairs : Numbering) (variable : ℕ → Variable) (ls : List
   pub stands : StandsFor cells (flat_clause pairs variable ls)
   pub known : AllByRecursion (λ s. has_number pairs s ≡ true) (literals_symbols ls)
 
-pub has_heads : (pairs : Numbering) (variable : ℕ → Variable) (ls : List Literal) (cells : List Cell) → IsFlatBy pairs variable ls cells → HasHeads cells
-has_heads pairs variable ls cells h = clause_heads pairs variable ls cells h.sound h.stands
+-- its cells can be compared
+pub query_comparable : (pairs : Numbering) (ls : List Literal) (cells : List Cell) → IsFlatBy pairs query ls cells → IsComparable Query cells
+query_comparable pairs ls cells h = record {
+  owned = subst (AreOf Query) (sym h.stands.cells_are) (query_clause pairs ls h.sound);
+  whole = (_, h.stands);
+  heads = clause_heads pairs query ls cells h.sound h.stands;
+}
 
-pub is_of_query : (pairs : Numbering) (ls : List Literal) (cells : List Cell) → IsFlatBy pairs query ls cells → AreOf Query cells
-is_of_query pairs ls cells h = subst (AreOf Query) (sym h.stands.cells_are) (query_clause pairs ls h.sound)
-
-pub is_of_entry : (pairs : Numbering) (ls : List Literal) (cells : List Cell) → IsFlatBy pairs entry ls cells → AreOf Entry cells
-is_of_entry pairs ls cells h = subst (AreOf Entry) (sym h.stands.cells_are) (entry_clause pairs ls h.sound)
+pub entry_comparable : (pairs : Numbering) (ls : List Literal) (cells : List Cell) → IsFlatBy pairs entry ls cells → IsComparable Entry cells
+entry_comparable pairs ls cells h = record {
+  owned = subst (AreOf Entry) (sym h.stands.cells_are) (entry_clause pairs ls h.sound);
+  whole = (_, h.stands);
+  heads = clause_heads pairs entry ls cells h.sound h.stands;
+}
 
 module _ (pairs : Numbering) (numbering : IsQueryNumbering pairs) (c d : List Literal) (cells_c cells_d : List Cell) (flat_c : IsFlatBy pairs query c cells_c) (flat_d : IsFlatBy pairs entry d cells_d) where
   abbrev xs : List Bytes

@@ -9,7 +9,7 @@ use Rattle.si_flat.specs.declared.Cell.{Cell}
 use Rattle.si_flat.specs.declared.Cell.TheVariants as cell
 use Rattle.si_flat.specs.declared.Owner.{Owner}
 use Rattle.si_flat.specs.declared.Owner.TheVariants.{Query, Entry}
-use Rattle.si_flat.specs.Cells.{Symbol, entry, Variable, same_variable, Term, Terms, StandsFor}
+use Rattle.si_flat.specs.Cells.{Symbol, entry, Variable, same_variable, IsWhole, Term, Terms, StandsFor}
 
 abbrev pub arguments : Term → Terms
 arguments (terms.var x) = terms.none
@@ -51,6 +51,12 @@ IsCellOf owner c = ⊥
 
 abbrev pub AreOf : Owner → List Cell → Type 0
 AreOf owner = AllByRecursion (IsCellOf owner)
+
+-- one term, whose variables are the owner's, and whose arguments have heads
+pub record IsComparable (owner : Owner) (cells : List Cell) : Type 0 where
+  pub owned : AreOf owner cells
+  pub whole : IsWhole cells
+  pub heads : HasHeads cells
 
 -- the owner's variables have numbers below this one
 abbrev pub IsNumberedBelow : Owner → ℕ → Cell → Type 0

@@ -2,8 +2,7 @@
 ghost use Rattle.std.specs.Prelude.{◌≡◌, ◌↔◌, ◌<◌, ◌-◌, ◌^◌, IsTrue, IfOk, length, map, true, false};
 ghost use Rattle.std.specs.List.{AllByRecursion};
 ghost use Rattle.si_flat.specs.declared.Owner.TheVariants.{Query, Entry};
-ghost use Rattle.si_flat.specs.Cells.{IsWhole};
-ghost use Rattle.si_subsume.specs.Maps.{AreOf, HasHeads, AnswersFlat};
+ghost use Rattle.si_subsume.specs.Maps.{AnswersFlat, IsComparable};
 ghost use Rattle.si_subsume.specs.Parts.{AreFixed};
 ghost use Rattle.si_subsume.specs.Search.{AreFlatLiterals, AnswersSlices, number_of};
 ghost use Rattle.si_subsume.specs.Tasks.{IsSearchable, FindsMap};
@@ -101,12 +100,8 @@ fn least_by_heads<'a>(
 /// [`flatten_clauses`](si_flat::flatten_clauses) or in a [`ClauseBuffer`](si_flat::ClauseBuffer),
 /// the arguments are the literals.
 pub fn least_map_of(alloc: Global, c: &[Cell], d: &[Cell]) -> Result<Option<LitMap>, AllocError>
-    requires c { AreOf Query c.now }
-    requires d { AreOf Entry d.now }
-    requires c_whole { IsWhole c.now }
-    requires d_whole { IsWhole d.now }
-    requires c_heads { HasHeads c.now }
-    requires d_heads { HasHeads d.now }
+    requires c { IsComparable Query c.now }
+    requires d { IsComparable Entry d.now }
     ensures { IfOk result (AnswersFlat c.now d.now) }
 {
     let literals = arguments(alloc, c)?;

@@ -5,9 +5,8 @@ use Rattle.si_state.specs.Subsumption.{IsMap, AnswersLeast}
 use Rattle.si_flat.specs.declared.Owner.TheVariants.{Query, Entry}
 use Rattle.si_flat.specs.FlatClauses.{clause_numbers}
 use Rattle.si_term.specs.Meaning.{literal_of}
-use Rattle.si_subsume.specs.Maps.{AreOf, HasHeads, AnswersFlat}
-use Rattle.si_subsume.proofs.ClauseMaps.{clause_answer, is_of_query, is_of_entry, has_heads, numbering_together, first_flat, second_flat}
-use Rattle.si_flat.specs.Cells.{query, entry}
+use Rattle.si_subsume.specs.Maps.{IsComparable, AnswersFlat}
+use Rattle.si_subsume.proofs.ClauseMaps.{clause_answer, query_comparable, entry_comparable, numbering_together, first_flat, second_flat}
 use Rattle.si_subsume.proofs.literals.least_map.Goals as goal
 
 pub least_map_of-requires-clause-c : goal.least_map_of-requires-clause-c
@@ -15,28 +14,14 @@ least_map_of-requires-clause-c c =
     let ls = map literal_of c.args.c.now in
     let ks = map literal_of c.args.d.now in
     let flat : List Cell × List Cell = (c.in_ok-flat_c.flat_c, c.in_ok-flat_c.flat_d) in
-    subst (AreOf Query) (sym c.cells.ensures.cells) (is_of_query (clause_numbers ls ks) ls c.in_ok-flat_c.flat_c (first_flat ls ks flat c.requires.c c.requires.d c.in_ok-flat_c.ensures))
+    subst (IsComparable Query) (sym c.cells.ensures.cells) (query_comparable (clause_numbers ls ks) ls c.in_ok-flat_c.flat_c (first_flat ls ks flat c.requires.c c.requires.d c.in_ok-flat_c.ensures))
 
 pub least_map_of-requires-clause-d : goal.least_map_of-requires-clause-d
 least_map_of-requires-clause-d c =
     let ls = map literal_of c.args.c.now in
     let ks = map literal_of c.args.d.now in
     let flat : List Cell × List Cell = (c.in_ok-flat_c.flat_c, c.in_ok-flat_c.flat_d) in
-    subst (AreOf Entry) (sym c.cells-2.ensures.cells) (is_of_entry (clause_numbers ls ks) ks c.in_ok-flat_c.flat_d (second_flat ls ks flat c.requires.c c.requires.d c.in_ok-flat_c.ensures))
-
-pub least_map_of-requires-clause-c_heads : goal.least_map_of-requires-clause-c_heads
-least_map_of-requires-clause-c_heads c =
-    let ls = map literal_of c.args.c.now in
-    let ks = map literal_of c.args.d.now in
-    let flat : List Cell × List Cell = (c.in_ok-flat_c.flat_c, c.in_ok-flat_c.flat_d) in
-    subst HasHeads (sym c.cells.ensures.cells) (has_heads (clause_numbers ls ks) query ls c.in_ok-flat_c.flat_c (first_flat ls ks flat c.requires.c c.requires.d c.in_ok-flat_c.ensures))
-
-pub least_map_of-requires-clause-d_heads : goal.least_map_of-requires-clause-d_heads
-least_map_of-requires-clause-d_heads c =
-    let ls = map literal_of c.args.c.now in
-    let ks = map literal_of c.args.d.now in
-    let flat : List Cell × List Cell = (c.in_ok-flat_c.flat_c, c.in_ok-flat_c.flat_d) in
-    subst HasHeads (sym c.cells-2.ensures.cells) (has_heads (clause_numbers ls ks) entry ks c.in_ok-flat_c.flat_d (second_flat ls ks flat c.requires.c c.requires.d c.in_ok-flat_c.ensures))
+    subst (IsComparable Entry) (sym c.cells-2.ensures.cells) (entry_comparable (clause_numbers ls ks) ks c.in_ok-flat_c.flat_d (second_flat ls ks flat c.requires.c c.requires.d c.in_ok-flat_c.ensures))
 
 pub returns : goal.returns
 returns c =

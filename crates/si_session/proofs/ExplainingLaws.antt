@@ -1,7 +1,6 @@
 -- Queries that are made flat as their lines are read.
 use Rattle.std.proofs.Common.{◌≡◌, Bool, List, ◌∷◌}
 use Rattle.si_defs.specs.Bytes.{Bytes}
-use Rattle.si_defs.specs.Clauses.{Pattern}
 use Rattle.si_defs.specs.Symbols.{Numbering}
 use Rattle.si_defs.specs.Tokens.{Token, lower}
 use Rattle.si_defs.specs.declared.Relation.{Relation}
@@ -13,7 +12,6 @@ use Rattle.si_lex.specs.declared.lexing.TokensEnd.TheVariants.{End}
 use Rattle.si_lex.specs.Lexemes.{tokens_of}
 use Rattle.si_lex.specs.Lexing.{IsLexing}
 use Rattle.si_parse.specs.declared.pattern.PatternKind.{PatternKind}
-use Rattle.si_parse.specs.declared.pattern.PatternKind.TheVariants as kind
 use Rattle.si_flat.specs.declared.flatten.FlatQuery.{FlatQuery}
 use Rattle.si_query.specs.Reading.{ReadsFlat}
 use Rattle.si_index.specs.Kept.{Kept}

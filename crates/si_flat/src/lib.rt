@@ -31,7 +31,7 @@ use smallvec::SmallVec;
 use std::alloc::{AllocError, Global};
 use std::default::MadeWith;
 use std::marker::Model;
-pub use writer::{Opened, QueryWriter};
+pub use writer::{Gap, QueryWriter};
 
 /// A map of literals: for each literal of a clause in order the number, from 1, of its image.
 pub type LitMap = Items<u32>;

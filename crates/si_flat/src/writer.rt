@@ -34,16 +34,16 @@ impl<'a> Model for QueryWriter<'a> {
 
 /// The place of a symbol's cell that isn't written yet. Contracts see it.
 #[derive(Drop)]
-pub struct Opened {
+pub struct Gap {
     place: usize,
 }
 
-impl Model for Opened {
+impl Model for Gap {
     ghost use Rattle.std.specs.Prelude.{ℕ};
 
     ghost Value = { ℕ };
 
-    ghost view = { λ o. o.place };
+    ghost view = { λ gap. gap.place };
 }
 
 impl<'a> QueryWriter<'a> {
@@ -68,12 +68,12 @@ impl<'a> QueryWriter<'a> {
     }
 
     /// Leaves a place for the cell of a symbol, whose arguments are written next.
-    pub fn open(&mut self) -> Result<Opened, AllocError>
-        ensures { IfOk result (λ opened. Opens opened self.old self.new) }
+    pub fn open(&mut self) -> Result<Gap, AllocError>
+        ensures { IfOk result (λ gap. Opens gap self.old self.new) }
     {
         let place = self.written.cells.len();
         self.written.cells.push(Cell::Query(0))?;
-        Ok(Opened { place })
+        Ok(Gap { place })
     }
 
     /// Puts the cell of a symbol in the place that was left for it. Its arguments are all that was
@@ -81,18 +81,18 @@ impl<'a> QueryWriter<'a> {
     pub fn close<T: SymTable>(
         &mut self,
         table: &T,
-        opened: Opened,
+        gap: Gap,
         symbol: &Sym,
         positive: bool,
     ) -> Option<()>
-        requires inside { opened < length self.old.cells }
-        requires short { length self.old.cells - opened < 2 ^ 32 }
+        requires inside { gap < length self.old.cells }
+        requires short { length self.old.cells - gap < 2 ^ 32 }
         ensures { IfSome result (λ _. PutsSymbol (T.pairs table.now) (symbol_of symbol.now) positive
-            opened self.old self.new) }
+            gap self.old self.new) }
     {
         let number = table.id_of(symbol)?;
         let signed = with_sign(number, positive, symbol.side);
-        close(&mut self.written.cells, opened.place, signed, symbol.arity);
+        close(&mut self.written.cells, gap.place, signed, symbol.arity);
         Some(())
     }
 

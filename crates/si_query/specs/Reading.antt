@@ -128,7 +128,7 @@ pub record ReadsStatement (pairs : Numbering) (equal positive : Bool) (tokens : 
   pub flat : Flattens pairs (entry_scheme Query positive) old new (term_piece atom)
 
 -- ---- patterns
-abbrev pub ReadsPattern : PatternKind → Numbering → List Lexeme → WalkState → WalkState
+abbrev pub ReadsByKind : PatternKind → Numbering → List Lexeme → WalkState → WalkState
     → List Lexeme → Type 0
-ReadsPattern Lit = ReadsLiteral
-ReadsPattern Term = ReadsTerm
+ReadsByKind Lit = ReadsLiteral
+ReadsByKind Term = ReadsTerm

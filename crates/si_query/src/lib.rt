@@ -8,7 +8,7 @@
 ghost use Rattle.std.specs.Prelude.{◌≤◌, IfOk, IfSome, length};
 ghost use Rattle.si_defs.specs.declared.TheConstants.{MOST_BYTES};
 ghost use Rattle.si_lex.specs.Lexemes.{tokens_of};
-ghost use Rattle.si_query.specs.Reading.{HasNumbersFor, ReadsFlat, ReadsPattern};
+ghost use Rattle.si_query.specs.Reading.{HasNumbersFor, ReadsFlat, ReadsByKind};
 
 mod literals;
 mod terms;
@@ -56,7 +56,7 @@ fn pattern<'t, 'b, T: SymTable>(
     writer: &mut QueryWriter<'b>,
 ) -> Result<Option<&'t [Lexeme<'b>]>, AllocError>
     requires { HasNumbersFor 1 tokens.now writer.old }
-    ensures { IfOk result (λ read. IfSome read (λ rest. ReadsPattern kind (T.pairs table.now)
+    ensures { IfOk result (λ read. IfSome read (λ rest. ReadsByKind kind (T.pairs table.now)
         tokens.now writer.old writer.new rest.now)) }
 {
     match kind {

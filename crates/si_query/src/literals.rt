@@ -113,7 +113,7 @@ fn equation<'t, 'b, T: SymTable>(
     ensures { IfOk result (λ read. IfSome read (λ r. ReadsStatement (T.pairs table.now) r.0
         (r.0 && not denied) tokens.now writer.old writer.new r.1.now)) }
 {
-    let opened = writer.open()?;
+    let gap = writer.open()?;
     let Some(behind) = term(alloc, table, tokens, writer)? else {
         return Ok(None);
     };
@@ -129,7 +129,7 @@ fn equation<'t, 'b, T: SymTable>(
         kind: SymKind::Equal,
         side: Side::Predicate,
     };
-    let Some(()) = writer.close(table, opened, &symbol, is_positive(equal, denied)) else {
+    let Some(()) = writer.close(table, gap, &symbol, is_positive(equal, denied)) else {
         return Ok(None);
     };
     Ok(Some((equal, rest)))
@@ -160,7 +160,7 @@ fn predicate<'t, 'b, T: SymTable>(
     let Some(kind) = head_kind(head.kind) else {
         return Ok(None);
     };
-    let opened = writer.open()?;
+    let gap = writer.open()?;
     let Some((arity, rest)) = applied(alloc, table, behind, writer)? else {
         return Ok(None);
     };
@@ -173,7 +173,7 @@ fn predicate<'t, 'b, T: SymTable>(
         kind,
         side: Side::Predicate,
     };
-    let Some(()) = writer.close(table, opened, &symbol, positive) else {
+    let Some(()) = writer.close(table, gap, &symbol, positive) else {
         return Ok(None);
     };
     Ok(Some(rest))

@@ -53,14 +53,14 @@ fn constant<'t, 'b, T: SymTable>(
     ensures { IfOk result (λ read. IfSome read (λ left. WritesConstant (T.pairs table.now) kind
         (token_of token.now).text rest.now writer.old writer.new left.now)) }
 {
-    let opened = writer.open()?;
+    let gap = writer.open()?;
     let symbol = Sym {
         text: token.text(alloc)?,
         arity: 0,
         kind,
         side: Side::Function,
     };
-    let Some(()) = writer.close(table, opened, &symbol, true) else {
+    let Some(()) = writer.close(table, gap, &symbol, true) else {
         return Ok(None);
     };
     Ok(Some(rest))
@@ -80,7 +80,7 @@ fn application<'t, 'b, T: SymTable>(
     ensures { IfOk result (λ read. IfSome read (λ rest. ReadsHeaded (T.pairs table.now) kind
         (token_of head.now).text tokens.now writer.old writer.new rest.now)) }
 {
-    let opened = writer.open()?;
+    let gap = writer.open()?;
     let Some((arity, rest)) = applied(alloc, table, tokens, writer)? else {
         return Ok(None);
     };
@@ -90,7 +90,7 @@ fn application<'t, 'b, T: SymTable>(
         kind,
         side: Side::Function,
     };
-    let Some(()) = writer.close(table, opened, &symbol, true) else {
+    let Some(()) = writer.close(table, gap, &symbol, true) else {
         return Ok(None);
     };
     Ok(Some(rest))

@@ -19,7 +19,7 @@ close-requires-clause-inside g c =
     let pairs = g.T.SymTable.pairs c.args.table.now in
     let h = found _ c.in_ok-behind.ensures c.in-Some.is in
     let k = found _ c.in_ok-rest.ensures c.in-Some-2.is in
-    inside_written pairs _ c.args.writer.now c.open.new.self c.term-2.new.writer c.in_ok-opened.ensures (terms.row (h.term ∷ k.term ∷ []))
+    inside_written pairs _ c.args.writer.now c.open.new.self c.term-2.new.writer c.in_ok-gap.ensures (terms.row (h.term ∷ k.term ∷ []))
     (writes_two pairs h.term k.term c.open.new.self c.term.new.writer c.term-2.new.writer h.flat k.flat)
 
 pub close-requires-clause-short : goal.close-requires-clause-short
@@ -31,7 +31,7 @@ close-requires-clause-short g c =
       h.spends.cells,
       k.spends.cells,
       left_shorter c.in-Some.behind.now c.in-Some-sign.next.now c.in-Some-sign.ensures,
-      ap length c.in_ok-opened.ensures.cells,
+      ap length c.in_ok-gap.ensures.cells,
       length-append c.args.writer.now.cells (Query 0 ∷ []),
       c.requires.cells,
     )
@@ -48,7 +48,7 @@ returns g c =
       read = statement_sides h.read c.in-Some-sign.ensures k.read;
       flat =
           subst (λ positive. Flattens pairs (entry_scheme owner.Query positive) c.args.writer.now c.close.new.self (term_piece (equation h.term k.term))) c.is_positive.ensures
-          (closed_predicate pairs _ c.args.writer.now c.open.new.self c.term-2.new.writer c.close.new.self c.in_ok-opened.ensures (terms.row (h.term ∷ k.term ∷ [])) _ equality p
+          (closed_predicate pairs _ c.args.writer.now c.open.new.self c.term-2.new.writer c.close.new.self c.in_ok-gap.ensures (terms.row (h.term ∷ k.term ∷ [])) _ equality p
           (ap (λ x. record { kind = Equal; text = x; side = Predicate; arity = 2 }) (c.in_ok-from_bytes.ensures ∙ c.as_slice.ensures)) put
           (writes_two pairs h.term k.term c.open.new.self c.term.new.writer c.term-2.new.writer h.flat k.flat));
     }

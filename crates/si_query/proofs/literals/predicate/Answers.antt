@@ -9,7 +9,7 @@ use Rattle.si_query.proofs.literals.predicate.Goals as goal
 pub close-requires-clause-inside : goal.close-requires-clause-inside
 close-requires-clause-inside g c =
     let h = found _ c.in_ok-arity.ensures c.in-Some-2.is in
-    inside_written (g.T.SymTable.pairs c.args.table.now) _ c.args.writer.now c.open.new.self c.applied.new.writer c.in_ok-opened.ensures h.arguments h.flat
+    inside_written (g.T.SymTable.pairs c.args.table.now) _ c.args.writer.now c.open.new.self c.applied.new.writer c.in_ok-gap.ensures h.arguments h.flat
 
 pub returns : goal.returns
 returns g c =
@@ -18,5 +18,5 @@ returns g c =
     let put = found _ c.close.ensures c.in-Some-close.is in
     predicate_read pairs c.args.tokens.now c.args.writer.now c.close.new.self c.in-Some.kind c.in-Some-2.arity c.args.positive c.in-Some-2.rest.now c.sign.result c.in-len1-up.len_at_least c.in-Some.ensures h c.sign.ensures
     (no_sign c.sign.result (sym c.is_some.ensures ∙ c.if-is_some.false))
-    (closed_predicate pairs _ c.args.writer.now c.open.new.self c.applied.new.writer c.close.new.self c.in_ok-opened.ensures h.arguments _ _ c.args.positive
+    (closed_predicate pairs _ c.args.writer.now c.open.new.self c.applied.new.writer c.close.new.self c.in_ok-gap.ensures h.arguments _ _ c.args.positive
     (ap (λ x. record { kind = c.in-Some.kind; text = x; side = Predicate; arity = c.in-Some-2.arity }) c.in_ok-text.ensures) put h.flat)

@@ -15,7 +15,7 @@ use Rattle.si_query.proofs.terms.+reading.Goals as goal
 pub application-close-requires-clause-inside : goal.application-close-requires-clause-inside
 application-close-requires-clause-inside g t c =
     let h = found _ c.in_ok-arity.ensures c.in-Some.is in
-    inside_written (g.T.SymTable.pairs c.args.table.now) _ c.args.writer.now c.open.new.self c.applied.new.writer c.in_ok-opened.ensures h.arguments h.flat
+    inside_written (g.T.SymTable.pairs c.args.table.now) _ c.args.writer.now c.open.new.self c.applied.new.writer c.in_ok-gap.ensures h.arguments h.flat
 
 pub application-returns : goal.application-returns
 application-returns g t c =
@@ -25,7 +25,7 @@ application-returns g t c =
     let inside = c.applied.new.writer in
     let d = c.close.new.self in
     let h = found _ c.in_ok-arity.ensures c.in-Some.is in
-    let opened = c.in_ok-opened.ensures in
+    let opened = c.in_ok-gap.ensures in
     let put = found _ c.close.ensures c.in-Some-close.is in
     let text = (token_of c.args.head.now).text in
     record {

@@ -16,15 +16,15 @@ use Rattle.si_changes.specs.Nodes.{with_content, OtherNodesStay, ChangesPostings
 use Rattle.si_tree.specs.declared.node.Head.{Head}
 use Rattle.si_tree.specs.declared.node.TreeNode.{TreeNode}
 use Rattle.si_tree.specs.declared.node.Content.{Content}
-use Rattle.si_tree.specs.declared.node.Content.TheVariants.{Inner, One, Many}
+use Rattle.si_tree.specs.declared.node.Content.TheVariants.{Fork, Inner, One, Many}
 use Rattle.si_tree.specs.declared.tree.Tree.TheInside.{Inside}
 use Rattle.si_tree.specs.Decoding.{bindings_of}
-use Rattle.si_tree.specs.KeptHeads.{heads_in}
-use Rattle.si_tree.specs.KeptNodes.{node_of, slot_of, tree_of, content_of, KnowsHeads, IsKept, IsLeafNode, IsSameBut, postings_in}
+use Rattle.si_tree.specs.KeptNodes.{node_of, slot_of, tree_of, content_of, heads_of, AreKnown, KnowsHeads, IsKept, IsLeafNode, IsSameBut, postings_in}
 use Rattle.si_tree.specs.Heads.{HeadsAt, AreHeadsOf}
 use Rattle.si_tree.specs.Reading.{postings_of}
 use Rattle.si_tree.proofs.SlotLaws.{slot_read, node_read}
 use Rattle.si_tree.proofs.CountLaws.{weight, counted_changed}
+use Rattle.si_tree.proofs.ChildLaws.{inner_no_leaf}
 
 -- ---- nodes that keep their bindings
 abbrev pub KeepsBindings : Tree Term → Tree Term → Type 0
@@ -44,17 +44,17 @@ heads_over old new split (h ∷ hs) [] keeps are = absurd are
 heads_over old new split (h ∷ hs) (c ∷ cs) keeps are = (head_over old new split c h keeps are.0, heads_over old new split hs cs keeps are.1)
 
 pub known_over : (old new : Tree Term) (content : Content) → KeepsBindings old new → KnowsHeads old content → KnowsHeads new content
-known_over old new (Inner b) keeps known = heads_over old new b.split (heads_in b.heads) b.children.items keeps known
-known_over old new (One slot) keeps known = tt
-known_over old new (Many postings) keeps known = tt
+known_over old new content keeps known = by (content_of content) known where
+  by : (c : trees.Content) → AreKnown old c (heads_of content) → AreKnown new c (heads_of content)
+  by (inner split children) are = heads_over old new split (heads_of content) children keeps are
+  by (leaf postings) none = none
 
 -- a leaf has no heads
 pub leaf_known : (tree : Tree Term) (content : Content) (postings : List Posting) → content_of content ≡ leaf postings → KnowsHeads tree content
-leaf_known tree (One slot) postings e = tt
-leaf_known tree (Many ps) postings e = tt
-leaf_known tree (Inner b) postings e = absurd (differ e) where
-  differ : inner b.split b.children.items ≡ leaf postings → ⊥
-  differ f = cc
+leaf_known tree (Fork f) postings e = absurd (inner_no_leaf _ _ postings e)
+leaf_known tree (Inner b) postings e = absurd (inner_no_leaf _ _ postings e)
+leaf_known tree (One slot) postings e = refl
+leaf_known tree (Many ps) postings e = refl
 
 -- ---- one leaf with other postings
 pub record ChangesLeaf (old new : Inside) (key : ℕ) (n m : TreeNode) : Type 0 where

@@ -4,6 +4,7 @@ pub mod CountLaws
 pub mod HeadLaws
 pub mod HeadPlaces
 pub mod ChildLaws
+pub mod KnownHeads
 pub mod ChildPlaces
 pub mod RootLaws
 pub mod NewLaws

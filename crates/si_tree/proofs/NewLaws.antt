@@ -8,29 +8,25 @@ use Rattle.si_legal.specs.Trees.{inner}
 use Rattle.si_legal.specs.Trees as trees
 use Rattle.si_legal.specs.Counts.{leaves_of, unmerged_of, counted}
 use Rattle.si_tree.specs.declared.node.TreeNode.{TreeNode}
-use Rattle.si_tree.specs.declared.node.Branches.{Branches}
-use Rattle.si_tree.specs.declared.node.Content.TheVariants.{Inner}
 use Rattle.si_tree.specs.declared.tree.Tree.TheInside.{Inside}
-use Rattle.si_tree.specs.KeptHeads.{heads_in}
-use Rattle.si_tree.specs.KeptNodes.{node_of, slot_of, tree_of, content_of, KnowsHeads, IsKept}
+use Rattle.si_tree.specs.KeptNodes.{node_of, slot_of, tree_of, content_of, heads_of, KnowsHeads, IsKept}
 use Rattle.si_tree.specs.Decoding.{bindings_of}
 use Rattle.si_tree.specs.Heads.{AreHeadsOf}
 use Rattle.si_tree.specs.NewTrees.{bare_root, IsRootAlone}
 use Rattle.si_tree.proofs.SlotLaws.{node_read, vacant_read}
 use Rattle.si_tree.proofs.CountLaws.{weight, counted_changed}
+use Rattle.si_tree.proofs.RoomLaws.{known_from}
 use Rattle.si_tree.proofs.RootLaws.{root_legal}
 
 -- the first node of a slab, and what it is
-pub record IsFirst (t : Inside) (n : TreeNode) (b : Branches) : Type 0 where
+pub record IsFirst (t : Inside) (n : TreeNode) : Type 0 where
   pub old : Slab TreeNode
   pub empty : old.slots ≡ []
   pub updates : Updates old t.nodes t.root (Some n)
   pub parent : n.parent ≡ None
   pub bindings : n.bindings ≡ []
-  pub content : n.content ≡ Inner b
-  pub split : b.split ≡ 0
-  pub heads : heads_in b.heads ≡ []
-  pub children : b.children.items ≡ []
+  pub content : content_of n.content ≡ inner 0 []
+  pub heads : heads_of n.content ≡ []
   pub next : t.next ≡ 1
   pub vars : t.vars ≡ 0
   pub leaves : t.leaves ≡ 0
@@ -39,12 +35,9 @@ pub record IsFirst (t : Inside) (n : TreeNode) (b : Branches) : Type 0 where
 none_before : (old : Slab TreeNode) (key : ℕ) → old.slots ≡ [] → get old key ≡ None
 none_before old key e = ap (λ slots. get_or slots key None) e
 
-module _ (t : Inside) (n : TreeNode) (b : Branches) (first : IsFirst t n b) where
-  content_is : content_of n.content ≡ inner 0 []
-  content_is = ap content_of first.content ∙ (λ i. inner (first.split i) (first.children i))
-
+module _ (t : Inside) (n : TreeNode) (first : IsFirst t n) where
   node_is : node_of n ≡ bare_root
-  node_is = λ i. record { parent = first.parent i; bindings = bindings_read i; content = content_is i } where
+  node_is = λ i. record { parent = first.parent i; bindings = bindings_read i; content = first.content i } where
     bindings_read : (node_of n).bindings ≡ []
     bindings_read = ap (λ bs. bindings_of bs) first.bindings
 
@@ -69,14 +62,13 @@ module _ (t : Inside) (n : TreeNode) (b : Branches) (first : IsFirst t n b) wher
 
   no_heads : KnowsHeads (tree_of t) n.content
   no_heads =
-      subst (KnowsHeads (tree_of t)) (sym first.content)
-      (subst (λ hs. AreHeadsOf (tree_of t) b.split hs b.children.items) (sym first.heads)
-      (subst (λ cs. AreHeadsOf (tree_of t) b.split [] cs) (sym first.children) tt))
+      known_from (tree_of t) n.content 0 [] first.content
+      (subst (λ hs. AreHeadsOf (tree_of t) 0 hs []) (sym first.heads) tt)
 
   none_counted : (count : trees.Content → ℕ) → count (inner 0 []) ≡ 0 → 0 ≡ counted count (tree_of t).nodes
   none_counted count none =
       let there : weight count (get_or (map slot_of t.nodes.slots) t.root None) ≡ 0 =
-      ap (weight count) (node_read t.nodes.slots t.root n first.updates.changed) ∙ ap count content_is ∙ none in
+      ap (weight count) (node_read t.nodes.slots t.root n first.updates.changed) ∙ ap count first.content ∙ none in
       omega (arith, there, counted_changed count [] (map slot_of t.nodes.slots) t.root (λ key apart. vacant_read t.nodes.slots key (other key apart)))
 
   pub new_kept : IsKept t

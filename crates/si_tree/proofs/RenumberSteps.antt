@@ -20,13 +20,14 @@ use Rattle.si_changes.proofs.PlacedLaws.{placed_renumbered}
 use Rattle.si_changes.proofs.RenamedTerms.{map_among}
 use Rattle.si_changes.proofs.RenumberLaws.{renumbered_legal, renumbered_stored, renumbered_leaves, binds_still}
 use Rattle.si_tree.specs.declared.node.Content.{Content}
-use Rattle.si_tree.specs.declared.node.Content.TheVariants.{Inner, One, Many}
+use Rattle.si_tree.specs.declared.node.Content.TheVariants.{Fork, Inner, One, Many}
 use Rattle.si_tree.specs.declared.node.Head.{Head}
 use Rattle.si_tree.specs.declared.node.Head.TheVariants.{Sym, Var}
 use Rattle.si_tree.specs.declared.node.TreeNode.{TreeNode}
 use Rattle.si_tree.specs.declared.renumber.Renumbered.{Renumbered}
 use Rattle.si_tree.specs.declared.renumber.Renumbering.{Renumbering}
 use Rattle.si_tree.specs.declared.tree.Tree.TheInside.{Inside}
+use Rattle.si_tree.specs.Forks.{fork_children, fork_heads, fork_split}
 use Rattle.si_tree.specs.Heads.{HasHead, AreHeadsOf}
 use Rattle.si_tree.specs.KeptHeads.{heads_in}
 use Rattle.si_tree.specs.KeptNodes.{node_of, tree_of, content_of, KnowsHeads, IsKept}
@@ -59,6 +60,7 @@ heads_renamed old new split split' (h ∷ hs) (c ∷ cs) bind are =
 
 -- ---- contents
 split_replaced : (split : ℕ) (c : Content) → content_of (with_split split c) ≡ with_new_split split (content_of c)
+split_replaced split (Fork f) = refl
 split_replaced split (Inner b) = refl
 split_replaced split (One s) = refl
 split_replaced split (Many ps) = refl
@@ -210,13 +212,19 @@ module _ (old : Inside) (kept : IsKept old) (r : Renumbering) (h : IsRenumbering
       let b = became key n.0 n.1 in
       subst (λ x. AreWhole x.bindings) (same_Some (with_numbers b.what.bindings b.what.split n.0) m (sym b.got ∙ got)) b.to_have.whole
 
-  heads_at : (key : ℕ) (n : TreeNode) (x : Node Term) (split : ℕ) (c : Content) → get old.nodes key ≡ Some n → n.content ≡ c → HasNode (tree_of (renumbered_inside old r)) key x → x.content ≡ content_of (with_split split c) → KnowsHeads (tree_of old) c → KnowsHeads (tree_of (renumbered_inside old r)) (with_split split c)
-  heads_at key n x split (One s) got e there is known = tt
-  heads_at key n x split (Many ps) got e there is known = tt
-  heads_at key n x split (Inner b) got e there is known =
-      heads_renamed (tree_of old) (tree_of (renumbered_inside old r)) b.split split (heads_in b.heads) b.children.items
-      (λ child t a. binds_still (tree_of old) (tree_of (renumbered_inside old r)) kept.legal is_renumbered key child b.split split (node_of n) x b.children.items b.children.items t (node_read old.nodes.slots key n got) there (ap content_of e) is a)
+  heads_known : (key : ℕ) (n : TreeNode) (x : Node Term) (split split' : ℕ) (heads : List Head) (children : List ℕ) → get old.nodes key ≡ Some n → HasNode (tree_of (renumbered_inside old r)) key x → content_of n.content ≡ inner split children → x.content ≡ inner split' children → AreHeadsOf (tree_of old) split heads children → AreHeadsOf (tree_of (renumbered_inside old r)) split' heads children
+  heads_known key n x split split' heads children got there was is known =
+      heads_renamed (tree_of old) (tree_of (renumbered_inside old r)) split split' heads children
+      (λ child t a. binds_still (tree_of old) (tree_of (renumbered_inside old r)) kept.legal is_renumbered key child split split' (node_of n) x children children t (node_read old.nodes.slots key n got) there was is a)
       known
+
+  heads_at : (key : ℕ) (n : TreeNode) (x : Node Term) (split : ℕ) (c : Content) → get old.nodes key ≡ Some n → n.content ≡ c → HasNode (tree_of (renumbered_inside old r)) key x → x.content ≡ content_of (with_split split c) → KnowsHeads (tree_of old) c → KnowsHeads (tree_of (renumbered_inside old r)) (with_split split c)
+  heads_at key n x split (One s) got e there is known = refl
+  heads_at key n x split (Many ps) got e there is known = refl
+  heads_at key n x split (Fork f) got e there is known =
+      heads_known key n x (fork_split f.value) split (fork_heads f.value) (fork_children f.value) got there (ap content_of e) is known
+  heads_at key n x split (Inner b) got e there is known =
+      heads_known key n x b.value.split split (heads_in b.value.heads) b.value.children.items got there (ap content_of e) is known
 
   heads_then : (key : ℕ) (m : TreeNode) → get (exchanged old.nodes r.nodes.items) key ≡ Some m → KnowsHeads (tree_of (renumbered_inside old r)) m.content
   heads_then key m got =

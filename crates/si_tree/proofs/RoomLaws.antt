@@ -13,35 +13,20 @@ use Rattle.si_legal.specs.Legal.{IsLegal}
 use Rattle.si_legal.specs.Counts.{leaf_count, unmerged_count}
 use Rattle.si_tree.specs.declared.node.TreeNode.{TreeNode}
 use Rattle.si_tree.specs.declared.node.Content.{Content}
-use Rattle.si_tree.specs.declared.node.Content.TheVariants.{Inner, One, Many}
 use Rattle.si_tree.specs.declared.tree.Tree.TheInside.{Inside}
 use Rattle.si_tree.specs.Decoding.{bindings_of}
 use Rattle.si_tree.specs.Heads.{AreHeadsOf}
-use Rattle.si_tree.specs.KeptHeads.{heads_in}
-use Rattle.si_tree.specs.KeptNodes.{node_of, slot_of, tree_of, content_of, heads_of, KnowsHeads, IsKept, IsSameNode, StaySame}
-use Rattle.si_tree.proofs.ChildLaws.{same_split, same_children, inner_no_leaf}
-use Rattle.si_tree.proofs.KeptLaws.{leaf_known}
+use Rattle.si_tree.specs.KeptNodes.{node_of, slot_of, tree_of, content_of, heads_of, AreKnown, KnowsHeads, IsKept, IsSameNode, StaySame}
 
 -- ---- heads, by what is seen of a node
 pub known_told : (tree : Tree Term) (content : Content) (split : ℕ) (children : List ℕ) → content_of content ≡ inner split children → KnowsHeads tree content → AreHeadsOf tree split (heads_of content) children
-known_told tree (Inner b) split children e known =
-    subst (λ n. AreHeadsOf tree n (heads_in b.heads) children) (same_split b.split split b.children.items children e)
-    (subst (AreHeadsOf tree b.split (heads_in b.heads)) (same_children b.split split b.children.items children e) known)
-known_told tree (One s) split children e known = absurd (inner_no_leaf split children _ (sym e))
-known_told tree (Many ps) split children e known = absurd (inner_no_leaf split children _ (sym e))
+known_told tree content split children e known = subst (λ c. AreKnown tree c (heads_of content)) e known
 
 pub known_from : (tree : Tree Term) (content : Content) (split : ℕ) (children : List ℕ) → content_of content ≡ inner split children → AreHeadsOf tree split (heads_of content) children → KnowsHeads tree content
-known_from tree (Inner b) split children e are =
-    subst (λ n. AreHeadsOf tree n (heads_in b.heads) b.children.items) (sym (same_split b.split split b.children.items children e))
-    (subst (AreHeadsOf tree split (heads_in b.heads)) (sym (same_children b.split split b.children.items children e)) are)
-known_from tree (One s) split children e are = tt
-known_from tree (Many ps) split children e are = tt
+known_from tree content split children e are = subst (λ c. AreKnown tree c (heads_of content)) (sym e) are
 
 pub known_same : (tree : Tree Term) (old new : Content) → content_of new ≡ content_of old → heads_of new ≡ heads_of old → KnowsHeads tree old → KnowsHeads tree new
-known_same tree (Inner b) new e heads known =
-    known_from tree new b.split b.children.items e (subst (λ hs. AreHeadsOf tree b.split hs b.children.items) (sym heads) known)
-known_same tree (One s) new e heads known = leaf_known tree new _ e
-known_same tree (Many ps) new e heads known = leaf_known tree new _ e
+known_same tree old new e heads known = subst (λ c. AreKnown tree c (heads_of new)) (sym e) (subst (AreKnown tree (content_of old)) (sym heads) known)
 
 -- ---- a slab
 pub same_node : (n m : TreeNode) → IsSameNode n m → node_of m ≡ node_of n

@@ -8,7 +8,7 @@ use Rattle.si_flat.specs.Rows.{CellPair, left_sides}
 use Rattle.si_flat.proofs.RowLaws.{distinct_parts}
 use Rattle.si_legal.specs.Bindings.{Binding, indicators, right_indicators}
 use Rattle.si_legal.specs.Renumbering.{renamed_bindings, renamed_content}
-use Rattle.si_legal.specs.Trees.{inner, Node, Tree, HasNode, Path, IsPath, opened}
+use Rattle.si_legal.specs.Trees.{Content, inner, leaf, Node, Tree, HasNode, Path, IsPath, opened}
 use Rattle.si_legal.specs.Legal.{IsOpenBelow, IsLegalNode, IsLegalContent, AreChildren}
 use Rattle.si_legal.proofs.PathLaws.{one_node, one_path}
 use Rattle.si_changes.specs.Places.{number_among, renumbered_node}
@@ -17,8 +17,6 @@ use Rattle.si_changes.proofs.Frames.{legal_nodes, IsChild, differ_told}
 use Rattle.si_changes.proofs.OpenLaws.{open_opened, opened_low, path_opens_once}
 use Rattle.si_changes.proofs.PlacedLaws.{number_one, same_renamed}
 use Rattle.si_changes.proofs.RenamedTerms.{TellsApart, distinct_map}
-use Rattle.si_tree.specs.declared.node.Content.{Content}
-use Rattle.si_tree.specs.declared.node.Content.TheVariants.{Inner, One, Many}
 use Rattle.si_tree.specs.declared.node.TreeNode.{TreeNode}
 use Rattle.si_tree.specs.declared.renumber.Visit.{Visit}
 use Rattle.si_tree.specs.declared.tree.Tree.TheInside.{Inside}
@@ -169,24 +167,22 @@ module _ (t : Inside) (kept : IsKept t) (numbers : List ℕ) (v : Visit) (n : Tr
   split_opened : (split : ℕ) → IsOpenBelow ((v.node, node_of n) ∷ s.above) split → IsAmong (opened ((v.node, node_of n) ∷ s.above)) split
   split_opened split a = open_opened (tree_of t) (legal_nodes (tree_of t) kept.legal) (Some v.node) ((v.node, node_of n) ∷ s.above) there split a
 
-  pub split_known : HasNotedSplit n.content (noted numbers v.opened (rights_in n.bindings))
-  split_known = by n.content content where
-    by : (c : Content) → IsLegalContent (tree_of t) v.node ((v.node, node_of n) ∷ s.above) (content_of c) → HasNotedSplit c (noted numbers v.opened (rights_in n.bindings))
-    by (Inner b) l = subst (λ m. b.split < m) (sym then_long) (low b.split (split_opened b.split l.0))
-    by (One slot) l = tt
-    by (Many ps) l = tt
+  pub split_known : HasNotedSplit (content_of n.content) (noted numbers v.opened (rights_in n.bindings))
+  split_known = by (content_of n.content) content where
+    by : (c : Content) → IsLegalContent (tree_of t) v.node ((v.node, node_of n) ∷ s.above) c → HasNotedSplit c (noted numbers v.opened (rights_in n.bindings))
+    by (inner split children) l = subst (λ m. split < m) (sym then_long) (low split (split_opened split l.0))
+    by (leaf ps) l = tt
 
-  content_then : with_new_split (split_in n.content (noted numbers v.opened (rights_in n.bindings))) (content_of n.content) ≡ renamed_content (number_among (opened ((v.node, node_of n) ∷ s.above))) (content_of n.content)
-  content_then = by n.content content where
-    by : (c : Content) → IsLegalContent (tree_of t) v.node ((v.node, node_of n) ∷ s.above) (content_of c) → with_new_split (split_in c (noted numbers v.opened (rights_in n.bindings))) (content_of c) ≡ renamed_content (number_among (opened ((v.node, node_of n) ∷ s.above))) (content_of c)
-    by (Inner b) l = ap (λ k. inner k b.children.items) (noted_then b.split (split_opened b.split l.0))
-    by (One slot) l = refl
-    by (Many ps) l = refl
+  content_then : with_new_split (split_in (content_of n.content) (noted numbers v.opened (rights_in n.bindings))) (content_of n.content) ≡ renamed_content (number_among (opened ((v.node, node_of n) ∷ s.above))) (content_of n.content)
+  content_then = by (content_of n.content) content where
+    by : (c : Content) → IsLegalContent (tree_of t) v.node ((v.node, node_of n) ∷ s.above) c → with_new_split (split_in c (noted numbers v.opened (rights_in n.bindings))) c ≡ renamed_content (number_among (opened ((v.node, node_of n) ∷ s.above))) c
+    by (inner split children) l = ap (λ k. inner k children) (noted_then split (split_opened split l.0))
+    by (leaf ps) l = refl
 
   pub to_have : IsToHave (tree_of t) (record {
     node = v.node;
     bindings = renumbered_pairs (noted_number (noted numbers v.opened (rights_in n.bindings))) n.bindings;
-    split = split_in n.content (noted numbers v.opened (rights_in n.bindings));
+    split = split_in (content_of n.content) (noted numbers v.opened (rights_in n.bindings));
   })
   to_have = record {
     node = node_of n;
@@ -200,18 +196,16 @@ module _ (t : Inside) (kept : IsKept t) (numbers : List ℕ) (v : Visit) (n : Tr
 
   -- ---- its children
   pub are_children : AreChildren (tree_of t) v.node (children_of (content_of n.content))
-  are_children = by n.content content where
-    by : (c : Content) → IsLegalContent (tree_of t) v.node ((v.node, node_of n) ∷ s.above) (content_of c) → AreChildren (tree_of t) v.node (children_of (content_of c))
-    by (Inner b) l = l.1
-    by (One slot) l = l.0
-    by (Many ps) l = l.0
+  are_children = by (content_of n.content) content where
+    by : (c : Content) → IsLegalContent (tree_of t) v.node ((v.node, node_of n) ∷ s.above) c → AreChildren (tree_of t) v.node (children_of c)
+    by (inner split children) l = l.1
+    by (leaf ps) l = l.0
 
   pub children_distinct : AreDistinct (children_of (content_of n.content))
-  children_distinct = by n.content content where
-    by : (c : Content) → IsLegalContent (tree_of t) v.node ((v.node, node_of n) ∷ s.above) (content_of c) → AreDistinct (children_of (content_of c))
-    by (Inner b) l = (differ_told (tree_of t) b.split b.children.items (legal_nodes (tree_of t) kept.legal) l.2).distinct
-    by (One slot) l = tt
-    by (Many ps) l = tt
+  children_distinct = by (content_of n.content) content where
+    by : (c : Content) → IsLegalContent (tree_of t) v.node ((v.node, node_of n) ∷ s.above) c → AreDistinct (children_of c)
+    by (inner split children) l = (differ_told (tree_of t) split children (legal_nodes (tree_of t) kept.legal) l.2).distinct
+    by (leaf ps) l = tt
 
   pub child_waits : (child : ℕ) → IsChild (tree_of t) v.node child → (w : Visit) → w.node ≡ child → w.opened ≡ v.opened + length (rights_in n.bindings) → Waits (tree_of t) (noted numbers v.opened (rights_in n.bindings)) w
   child_waits child c w key opened_is = record {

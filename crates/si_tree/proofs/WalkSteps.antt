@@ -157,7 +157,7 @@ module _ (t : Inside) (kept : IsKept t) (init : List Visit) (v : Visit) (numbers
     made = record {
       node = v.node;
       bindings = renumbered_pairs (noted_number (noted numbers v.opened (rights_in n.bindings))) n.bindings;
-      split = split_in n.content (noted numbers v.opened (rights_in n.bindings));
+      split = split_in (content_of n.content) (noted numbers v.opened (rights_in n.bindings));
     }
 
     abbrev children : List ℕ

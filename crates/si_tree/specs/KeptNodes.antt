@@ -9,12 +9,14 @@ use Rattle.si_legal.specs.Counts.{counted, leaf_count, unmerged_count}
 use Rattle.si_legal.specs.Trees.{inner, leaf, Node, Tree}
 use Rattle.si_legal.specs.Trees as trees
 use Rattle.si_legal.specs.Legal.{IsLegal}
+use Rattle.si_tree.specs.declared.node.Branches.{Branches}
 use Rattle.si_tree.specs.declared.node.Content.{Content}
-use Rattle.si_tree.specs.declared.node.Content.TheVariants.{Inner, One, Many}
+use Rattle.si_tree.specs.declared.node.Content.TheVariants.{Fork, Inner, One, Many}
 use Rattle.si_tree.specs.declared.node.Head.{Head}
 use Rattle.si_tree.specs.declared.node.TreeNode.{TreeNode}
 use Rattle.si_tree.specs.declared.tree.Tree.TheInside.{Inside}
 use Rattle.si_tree.specs.Decoding.{bindings_of}
+use Rattle.si_tree.specs.Forks.{fork_children, fork_heads, fork_split}
 use Rattle.si_tree.specs.Reading.{postings_of}
 use Rattle.si_tree.specs.Heads.{AreHeadsOf, StandTogether}
 use Rattle.si_tree.specs.KeptHeads.{heads_in, HasRoomForHead}
@@ -22,9 +24,17 @@ use Rattle.si_tree.specs.Rights.{head_in}
 use Rattle.si_tree.specs.Slots.{standing}
 
 abbrev pub content_of : Content → trees.Content
-content_of (Inner branches) = inner branches.split branches.children.items
+content_of (Fork fork) = inner (fork_split fork.value) (fork_children fork.value)
+content_of (Inner branches) = inner branches.value.split branches.value.children.items
 content_of (One slot) = leaf (standing (slot ∷ []))
-content_of (Many postings) = leaf postings
+content_of (Many postings) = leaf postings.value
+
+-- the heads beside the children
+abbrev pub heads_of : Content → List Head
+heads_of (Fork fork) = fork_heads fork.value
+heads_of (Inner branches) = heads_in branches.value.heads
+heads_of (One slot) = []
+heads_of (Many postings) = []
 
 abbrev pub node_of : TreeNode → Node Term
 node_of n = record {
@@ -45,12 +55,14 @@ tree_of t = record {
   vars = t.vars;
 }
 
+-- these heads are those of the children; a leaf has none
+abbrev pub AreKnown : Tree Term → trees.Content → List Head → Type 0
+AreKnown tree (inner split children) heads = AreHeadsOf tree split heads children
+AreKnown tree (leaf postings) heads = heads ≡ []
+
 -- the heads beside the children are theirs
 abbrev pub KnowsHeads : Tree Term → Content → Type 0
-KnowsHeads tree (Inner branches) =
-    AreHeadsOf tree branches.split (heads_in branches.heads) branches.children.items
-KnowsHeads tree (One slot) = Unit {0}
-KnowsHeads tree (Many postings) = Unit {0}
+KnowsHeads tree content = AreKnown tree (content_of content) (heads_of content)
 
 pub record IsKept (t : Inside) : Type 0 where
   pub legal : IsLegal (tree_of t)
@@ -76,12 +88,6 @@ pub record IsSameBut (old new : TreeNode) : Type 0 where
   pub bindings : new.bindings ≡ old.bindings
   pub leaf_still : IsLeafNode new
 
--- the heads beside the children
-abbrev pub heads_of : Content → List Head
-heads_of (Inner branches) = heads_in branches.heads
-heads_of (One slot) = []
-heads_of (Many postings) = []
-
 -- the same node, with other memory
 pub record IsSameNode (old new : TreeNode) : Type 0 where
   pub parent : new.parent ≡ old.parent
@@ -89,10 +95,14 @@ pub record IsSameNode (old new : TreeNode) : Type 0 where
   pub content : content_of new.content ≡ content_of old.content
   pub heads : heads_of new.content ≡ heads_of old.content
 
--- an inner node whose lists have room for a child
+-- lists with room for a child
+abbrev pub HaveRoom : Branches → Type 0
+HaveRoom b = HasRoomForHead b.heads × (length b.children.items < vec_capacity b.children)
+
+-- an inner node with room for a child
 abbrev pub HasRoomIn : Content → Type 0
-HasRoomIn (Inner b) =
-    HasRoomForHead b.heads × (length b.children.items < vec_capacity b.children)
+HasRoomIn (Fork fork) = length (fork_heads fork.value) < 2
+HasRoomIn (Inner branches) = HaveRoom branches.value
 HasRoomIn (One slot) = ⊥
 HasRoomIn (Many postings) = ⊥
 

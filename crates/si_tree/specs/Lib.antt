@@ -1,6 +1,7 @@
 pub mod Decoding
 pub mod Codes
 pub mod Heads
+pub mod Forks
 pub mod KeptHeads
 pub mod NewTrees
 pub mod Reading

@@ -12,18 +12,22 @@ use Rattle.si_legal.specs.Trees as trees
 use Rattle.si_legal.specs.StoredSets.{StaysStored, KeepsLeaves}
 use Rattle.si_changes.specs.Places.{renumbered_node}
 use Rattle.si_tree.specs.declared.node.Content.{Content}
-use Rattle.si_tree.specs.declared.node.Content.TheVariants.{Inner, One, Many}
+use Rattle.si_tree.specs.declared.node.Content.TheVariants.{Fork, Inner, One, Many}
 use Rattle.si_tree.specs.declared.node.TreeNode.{TreeNode}
 use Rattle.si_tree.specs.declared.renumber.Renumbered.{Renumbered}
 use Rattle.si_tree.specs.declared.renumber.Renumbering.{Renumbering}
 use Rattle.si_tree.specs.declared.renumber.Visit.{Visit}
 use Rattle.si_tree.specs.Decoding.{bindings_of}
+use Rattle.si_tree.specs.Forks.{fork_children, fork_heads}
 use Rattle.si_tree.specs.Numbers.{noted_number}
 use Rattle.si_tree.specs.Reading.{counts_of}
 
 -- ---- one node
 abbrev pub with_split : ℕ → Content → Content
-with_split split (Inner branches) = Inner (record branches { split = split })
+with_split split (Fork fork) =
+    Fork (record fork { value = (split, fork_heads fork.value, fork_children fork.value) })
+with_split split (Inner branches) =
+    Inner (record branches { value = record branches.value { split = split } })
 with_split split (One slot) = One slot
 with_split split (Many postings) = Many postings
 
@@ -34,15 +38,14 @@ with_numbers bindings split n = record {
   content = with_split split n.content;
 }
 
-abbrev pub HasNotedSplit : Content → List ℕ → Type 0
-HasNotedSplit (Inner branches) numbers = branches.split < length numbers
-HasNotedSplit (One slot) numbers = Unit {0}
-HasNotedSplit (Many postings) numbers = Unit {0}
+-- the split is among the numbers that are noted
+abbrev pub HasNotedSplit : trees.Content → List ℕ → Type 0
+HasNotedSplit (inner split children) numbers = split < length numbers
+HasNotedSplit (leaf postings) numbers = Unit {0}
 
-abbrev pub split_in : Content → List ℕ → ℕ
-split_in (Inner branches) numbers = noted_number numbers branches.split
-split_in (One slot) numbers = 0
-split_in (Many postings) numbers = 0
+abbrev pub split_in : trees.Content → List ℕ → ℕ
+split_in (inner split children) numbers = noted_number numbers split
+split_in (leaf postings) numbers = 0
 
 -- ---- the walk
 abbrev pub visits : ℕ → List ℕ → List Visit

@@ -12,6 +12,9 @@ use std::alloc::{AllocError, Global};
 // So many heads are compared one by one.
 const MOST_COMPARED: usize = 16;
 
+/// The lists of heads and of children have room for so many at first.
+pub(crate) const FIRST_ROOM: usize = 4;
+
 /// The heads of a node's children, in order. No two are the same. Many are hashed.
 #[derive(Drop)]
 pub(crate) enum Heads {
@@ -27,13 +30,14 @@ impl Heads {
         Heads::Few(Vec::new(alloc))
     }
 
-    /// One head, and room for another.
-    pub(crate) fn one(alloc: Global, head: Head) -> Result<Heads, AllocError>
-        ensures heads { IfOk result (λ heads. heads_in heads ≡ head ∷ []) }
-        ensures room { OnOk result (IfOk result HasRoomForHead) }
+    /// These two heads, and room for another.
+    pub(crate) fn few(alloc: Global, two: &[Head]) -> Result<Heads, AllocError>
+        ensures heads { IfOk result (λ heads. heads_in heads ≡ two.now) }
+        ensures room { IfOk result HasRoomForHead }
     {
-        let mut heads = Vec::with_capacity(alloc, 2)?;
-        heads.push_reserved(head);
+        let mut heads = Vec::with_capacity(alloc, FIRST_ROOM)?;
+        heads.extend_from_slice(two)?;
+        heads.reserve(1)?;
         Ok(Heads::Few(heads))
     }
 
@@ -127,8 +131,8 @@ fn hashed(alloc: Global, heads: &[Head]) -> Result<IndexSet<Head>, AllocError>
     Ok(set)
 }
 
-// The first place of a head.
-fn place_in(heads: &[Head], head: Head) -> Option<usize>
+/// The first place of a head.
+pub(crate) fn place_in(heads: &[Head], head: Head) -> Option<usize>
     ensures some { IfSome result (λ place. slice_get heads.now place ≡ Some head) }
     ensures none { IfNone result (IsAmong heads.now head → ⊥) }
 {

@@ -2,6 +2,7 @@
 #![tactic(auto)]
 
 mod dropping;
+mod fork;
 mod heads;
 mod node;
 mod numbers;

@@ -1,19 +1,20 @@
 // The nodes of a tree.
-ghost use Rattle.std.specs.Prelude.{◌≡◌, IfOk, ◌++◌, ◌∷◌, OnOk, OnErr, [], IfSome, IfNone, length, ℕ, IsPermutation};
+ghost use Rattle.std.specs.Prelude.{◌≡◌, ◌<◌, IfOk, ◌++◌, ◌∷◌, OnOk, OnErr, [], IfSome, IfNone, length, ℕ, IsPermutation, Some, slice_get};
 ghost use Rattle.si_defs.specs.Substitutions.{AreDistinct, IsAmong};
 ghost use Rattle.si_flat.specs.Rows.{left_sides};
 ghost use Rattle.si_legal.specs.Trees.{leaf};
 ghost use Rattle.si_legal.specs.Counts.{unmerged_of};
-ghost use Rattle.si_tree.specs.declared.node.Content.TheVariants.{Inner};
+ghost use Rattle.si_tree.specs.Forks.{fork_children, fork_heads, fork_split};
 ghost use Rattle.si_tree.specs.KeptHeads.{heads_in};
-ghost use Rattle.si_tree.specs.KeptNodes.{content_of, heads_of, moved_below, GainsChild, HasChildBy, RelinksChild, HasRoomForChild, HasRoomIn, IsFork, IsInnerNode, IsLeafWith, IsLeafNode, IsSameBut, IsSameNode, postings_in};
+ghost use Rattle.si_tree.specs.KeptNodes.{content_of, heads_of, moved_below, GainsChild, HasChildBy, RelinksChild, HasRoomForChild, HaveRoom, IsFork, IsInnerNode, IsLeafWith, IsLeafNode, IsSameBut, IsSameNode, postings_in};
 ghost use Rattle.si_tree.specs.Changes.{IsWithout};
 ghost use Rattle.si_tree.specs.Dropping.{HasBesides, LosesChild};
-ghost use Rattle.si_tree.specs.Heads.{StandTogether};
-ghost use Rattle.si_tree.specs.Reading.{postings_of};
+ghost use Rattle.si_tree.specs.Reading.{children_of, postings_of, split_of};
+ghost use Rattle.si_tree.specs.Renumbers.{with_split};
 ghost use Rattle.si_tree.specs.Slots.{standing};
 
-use crate::heads::Heads;
+use crate::fork::Fork;
+use crate::heads::{FIRST_ROOM, Heads, place_in};
 use crate::postings::{PostingList, Postings, Slot};
 use crate::rights::joined;
 use si_flat::Bindings;
@@ -73,11 +74,14 @@ pub(crate) struct TreeNode {
 /// What a node has below it: an inner node its children, a leaf its postings.
 #[derive(Drop)]
 pub(crate) enum Content {
-    Inner(Branches),
+    /// The children of an inner node that never had more than two.
+    Fork(Box<Fork>),
+    /// The children of an inner node, once there were three.
+    Inner(Box<Branches>),
     /// A leaf's first posting, if it still stands.
     One(Slot),
     /// A leaf's postings, once there were two.
-    Many(PostingList),
+    Many(Box<PostingList>),
 }
 
 /// The children of a node. They are told apart by their heads, which stand in the same order.
@@ -106,7 +110,7 @@ impl Content {
             return Content::leaf(posting);
         }
         let postings = PostingList::two(alloc, slot, posting)?;
-        Ok(Content::Many(postings))
+        Ok(Content::Many(Box::new(alloc, postings)?))
     }
 
     /// The postings of a leaf. An inner node has none.
@@ -114,9 +118,72 @@ impl Content {
         ensures { result ≡ postings_of (content_of self.now) }
     {
         match self {
+            Content::Fork(_) => Postings::none(),
             Content::Inner(_) => Postings::none(),
             Content::One(slot) => slot.postings(),
             Content::Many(postings) => postings.all(),
+        }
+    }
+
+    /// The indicator by which the children differ, and none at a leaf.
+    pub(crate) fn split(&self) -> Option<u32>
+        ensures { result ≡ split_of (content_of self.now) }
+    {
+        match self {
+            Content::Fork(fork) => Some(fork.split()),
+            Content::Inner(branches) => Some(branches.split),
+            Content::One(_) => None,
+            Content::Many(_) => None,
+        }
+    }
+
+    /// The children. A leaf has none.
+    pub(crate) fn children(&self) -> &[NodeId]
+        ensures { result.now ≡ children_of (content_of self.now) }
+    {
+        match self {
+            Content::Fork(fork) => fork.children(),
+            Content::Inner(branches) => branches.children.as_slice(),
+            Content::One(_) => Default::default(),
+            Content::Many(_) => Default::default(),
+        }
+    }
+
+    /// The head of the child at this place.
+    pub(crate) fn head(&self, place: usize) -> Head
+        requires { place < length (heads_of self.now) }
+        ensures { slice_get (heads_of self.now) place ≡ Some result }
+    {
+        match self {
+            Content::Fork(fork) => fork.heads()[place],
+            Content::Inner(branches) => branches.heads.at(place),
+            Content::One(_) => unreachable!(),
+            Content::Many(_) => unreachable!(),
+        }
+    }
+
+    /// The place of the child that has this head.
+    pub(crate) fn place(&self, head: Head) -> Option<usize>
+        ensures some { IfSome result (λ place. slice_get (heads_of self.now) place ≡ Some head) }
+        ensures none { IfNone result (IsAmong (heads_of self.now) head → ⊥) }
+    {
+        match self {
+            Content::Fork(fork) => place_in(fork.heads(), head),
+            Content::Inner(branches) => branches.heads.place(head),
+            Content::One(_) => None,
+            Content::Many(_) => None,
+        }
+    }
+
+    /// Gives an inner node another split.
+    pub(crate) fn renumber(&mut self, split: u32)
+        ensures { self.new ≡ with_split split self.old }
+    {
+        match self {
+            Content::Fork(fork) => fork.renumber(split),
+            Content::Inner(branches) => branches.split = split,
+            Content::One(_) => (),
+            Content::Many(_) => (),
         }
     }
 }
@@ -141,21 +208,28 @@ impl Branches {
         ensures split { self.new.split ≡ self.old.split }
         ensures heads { heads_in self.new.heads ≡ heads_in self.old.heads }
         ensures children { self.new.children.items ≡ self.old.children.items }
-        ensures room { OnOk result (HasRoomIn (Inner self.new)) }
+        ensures room { OnOk result (HaveRoom self.new) }
     {
         self.heads.reserve(alloc)?;
         self.children.reserve(1)
     }
 
-    /// The child that has this head.
-    pub(crate) fn child(&self, head: Head) -> Option<NodeId>
-        requires { length (heads_in self.now.heads) ≡ length self.now.children.items }
-        ensures some { IfSome result (StandTogether (heads_in self.now.heads)
-            self.now.children.items head) }
-        ensures none { IfNone result (IsAmong (heads_in self.now.heads) head → ⊥) }
+    /// The children of a fork, and room for another.
+    fn of(alloc: Global, fork: &Fork) -> Result<Branches, AllocError>
+        ensures split { IfOk result (λ b. b.split ≡ fork_split fork.now) }
+        ensures heads { IfOk result (λ b. heads_in b.heads ≡ fork_heads fork.now) }
+        ensures children { IfOk result (λ b. b.children.items ≡ fork_children fork.now) }
+        ensures room { IfOk result HaveRoom }
     {
-        let place = self.heads.place(head)?;
-        Some(self.children[place])
+        let heads = Heads::few(alloc, fork.heads())?;
+        let mut children = Vec::with_capacity(alloc, FIRST_ROOM)?;
+        children.extend_from_slice(fork.children())?;
+        children.reserve(1)?;
+        Ok(Branches {
+            split: fork.split(),
+            heads,
+            children,
+        })
     }
 }
 
@@ -171,17 +245,11 @@ impl TreeNode {
     ) -> Result<TreeNode, AllocError>
         ensures { IfOk result (IsFork parent bindings split head child) }
     {
-        let heads = Heads::one(alloc, head)?;
-        let mut children = Vec::with_capacity(alloc, 2)?;
-        children.push_reserved(child);
+        let fork = Fork::new(split, head, child);
         Ok(TreeNode {
             parent: Some(parent),
             bindings,
-            content: Content::Inner(Branches {
-                split,
-                heads,
-                children,
-            }),
+            content: Content::Fork(Box::new(alloc, fork)?),
         })
     }
 
@@ -209,6 +277,7 @@ impl TreeNode {
         ensures { result ≡ unmerged_of (content_of self.now.content) }
     {
         match &self.content {
+            Content::Fork(_) => 0,
             Content::Inner(_) => 0,
             Content::One(slot) => u64::from(!slot.stands()),
             Content::Many(postings) => u64::from(postings.all().is_empty()),
@@ -222,11 +291,19 @@ impl TreeNode {
         ensures same { IsSameNode self.old self.new }
         ensures room { OnOk result (HasRoomForChild self.new) }
     {
-        match &mut self.content {
-            Content::Inner(branches) => branches.reserve(alloc),
+        let branches = match &mut self.content {
+            Content::Fork(fork) => {
+                if fork.heads().len() < 2 {
+                    return Ok(());
+                }
+                Branches::of(alloc, fork)?
+            }
+            Content::Inner(branches) => return branches.reserve(alloc),
             Content::One(_) => unreachable!(),
             Content::Many(_) => unreachable!(),
-        }
+        };
+        self.content = Content::Inner(Box::new(alloc, branches)?);
+        Ok(())
     }
 
     /// Appends a child, for which there is room.
@@ -236,6 +313,7 @@ impl TreeNode {
         ensures { GainsChild self.old self.new head child }
     {
         match &mut self.content {
+            Content::Fork(fork) => fork.push(head, child),
             Content::Inner(branches) => {
                 branches.heads.push(head);
                 branches.children.push_reserved(child);
@@ -259,13 +337,12 @@ impl TreeNode {
         ensures { (child : ℕ) → HasChildBy self.old head child
             → RelinksChild self.old self.new child other }
     {
+        let Some(place) = self.content.place(head) else {
+            unreachable!()
+        };
         match &mut self.content {
-            Content::Inner(branches) => {
-                let Some(place) = branches.heads.place(head) else {
-                    unreachable!()
-                };
-                branches.children[place] = other;
-            }
+            Content::Fork(fork) => fork.relink(place, other),
+            Content::Inner(branches) => branches.children[place] = other,
             Content::One(_) => unreachable!(),
             Content::Many(_) => unreachable!(),
         }
@@ -278,6 +355,12 @@ impl TreeNode {
             → LosesChild self.old self.new child }
     {
         match &mut self.content {
+            Content::Fork(fork) => {
+                let Some(place) = place_in(fork.heads(), head) else {
+                    unreachable!()
+                };
+                fork.remove(place);
+            }
             Content::Inner(branches) => {
                 let place = branches.heads.remove(head);
                 branches.children.swap_remove(place);
@@ -292,11 +375,7 @@ impl TreeNode {
         requires { (other : ℕ) × HasBesides self.now child other }
         ensures { (other : ℕ) → HasBesides self.now child other → result ≡ other }
     {
-        match &self.content {
-            Content::Inner(branches) => besides(branches.children.as_slice(), child),
-            Content::One(_) => unreachable!(),
-            Content::Many(_) => unreachable!(),
-        }
+        besides(self.content.children(), child)
     }
 
     /// Appends a posting to those of a leaf.
@@ -307,6 +386,7 @@ impl TreeNode {
         ensures err { OnErr result (postings_in self.new ≡ postings_in self.old) }
     {
         let content = match &mut self.content {
+            Content::Fork(_) => unreachable!(),
             Content::Inner(_) => unreachable!(),
             Content::One(slot) => Content::with_another(alloc, *slot, posting)?,
             Content::Many(postings) => return postings.push(posting),
@@ -323,6 +403,7 @@ impl TreeNode {
         ensures dropped { IsWithout (postings_in self.old) posting (postings_in self.new) }
     {
         match &mut self.content {
+            Content::Fork(_) => unreachable!(),
             Content::Inner(_) => unreachable!(),
             Content::One(slot) => slot.empty(),
             Content::Many(postings) => postings.remove(posting),

@@ -44,11 +44,7 @@ impl TreeNode {
         ensures { self.new ≡ with_numbers bindings split self.old }
     {
         self.bindings = bindings;
-        match &mut self.content {
-            Content::Inner(branches) => branches.split = split,
-            Content::One(_) => (),
-            Content::Many(_) => (),
-        }
+        self.content.renumber(split);
     }
 }
 
@@ -97,7 +93,7 @@ impl Tree {
                 bindings: renumbered(alloc, numbers.as_slice(), &node.bindings)?,
                 split: split_in(&node.content, numbers.as_slice()),
             })?;
-            stack_children(&mut left, &node.content, opened)?;
+            stack(&mut left, node.content.children(), opened)?;
             next = next.max(opened);
         }
         Ok(Renumbering { nodes, next })
@@ -106,28 +102,16 @@ impl Tree {
 
 // The number that is noted for the split, and any at a leaf.
 fn split_in(content: &Content, numbers: &[u32]) -> u32
-    requires { HasNotedSplit content.now numbers.now }
-    ensures { result ≡ split_in content.now numbers.now }
+    requires { HasNotedSplit (content_of content.now) numbers.now }
+    ensures { result ≡ split_in (content_of content.now) numbers.now }
 {
-    match content {
-        Content::Inner(branches) => numbers[branches.split as usize],
-        Content::One(_) => 0,
-        Content::Many(_) => 0,
+    match content.split() {
+        Some(split) => numbers[split as usize],
+        None => 0,
     }
 }
 
 // Has the children wait. So many indicators are opened above them.
-fn stack_children(left: &mut Vec<Visit>, content: &Content, opened: u32) -> Result<(), AllocError>
-    ensures { OnOk result (left.new.items ≡ left.old.items ++ visits opened
-        (children_of (content_of content.now))) }
-{
-    match content {
-        Content::Inner(branches) => stack(left, branches.children.as_slice(), opened),
-        Content::One(_) => Ok(()),
-        Content::Many(_) => Ok(()),
-    }
-}
-
 fn stack(left: &mut Vec<Visit>, children: &[NodeId], opened: u32) -> Result<(), AllocError>
     ensures { OnOk result (left.new.items ≡ left.old.items ++ visits opened children.now) }
 {

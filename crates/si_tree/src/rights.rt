@@ -6,7 +6,7 @@ ghost use Rattle.si_legal.specs.Generalizations.{fresh_among};
 ghost use Rattle.si_tree.specs.KeptNodes.{IsBelow, IsBelowBy};
 ghost use Rattle.si_tree.specs.Rights.{beyond, beyond_all, beyond_rights, cell_head, head_in};
 
-use crate::node::{Content, Head, NodeId, TreeNode};
+use crate::node::{Head, NodeId, TreeNode};
 use si_flat::{Bindings, Cell};
 use slab::Slab;
 use std::alloc::{AllocError, Global};
@@ -29,10 +29,10 @@ pub(crate) fn head_below(nodes: &Slab<TreeNode>, node: NodeId, parent: NodeId) -
     requires { IsBelow nodes.now node parent }
     ensures { IsBelowBy nodes.now node parent result }
 {
-    let Content::Inner(branches) = &nodes[parent.key as usize].content else {
+    let Some(split) = nodes[parent.key as usize].content.split() else {
         unreachable!()
     };
-    let Some(head) = head_at(&nodes[node.key as usize].bindings, branches.split) else {
+    let Some(head) = head_at(&nodes[node.key as usize].bindings, split) else {
         unreachable!()
     };
     head

@@ -56,11 +56,12 @@ impl Tree {
     pub fn new(alloc: Global) -> Result<Tree, AllocError>
         ensures { IfOk result IsRootAlone }
     {
+        let branches = Box::new(alloc, Branches::new(alloc, 0))?;
         let mut nodes = Slab::with_capacity(alloc, 1)?;
         let root = nodes.insert_reserved(TreeNode {
             parent: None,
             bindings: Bindings::new(alloc),
-            content: Content::Inner(Branches::new(alloc, 0)),
+            content: Content::Inner(branches),
         });
         Ok(Tree {
             nodes,
@@ -127,11 +128,7 @@ impl Tree {
         requires { IsNode self.now node }
         ensures { AtNode self.now node (λ n. result ≡ split_of n.content) }
     {
-        match &self.nodes[node.key as usize].content {
-            Content::Inner(branches) => Some(branches.split),
-            Content::One(_) => None,
-            Content::Many(_) => None,
-        }
+        self.nodes[node.key as usize].content.split()
     }
 
     /// The nodes below the node. A leaf has none.
@@ -139,11 +136,7 @@ impl Tree {
         requires { IsNode self.now node }
         ensures { AtNode self.now node (λ n. result.now ≡ children_of n.content) }
     {
-        match &self.nodes[node.key as usize].content {
-            Content::Inner(branches) => branches.children.as_slice(),
-            Content::One(_) => Default::default(),
-            Content::Many(_) => Default::default(),
-        }
+        self.nodes[node.key as usize].content.children()
     }
 
     /// The head of the node's child at this place.
@@ -154,11 +147,7 @@ impl Tree {
             → AtNode self.now node (λ n. slice_get (children_of n.content) place ≡ Some child)
             → IsChildBy self.now node result child }
     {
-        match &self.nodes[node.key as usize].content {
-            Content::Inner(branches) => branches.heads.at(place),
-            Content::One(_) => unreachable!(),
-            Content::Many(_) => unreachable!(),
-        }
+        self.nodes[node.key as usize].content.head(place)
     }
 
     /// The postings of a leaf. Another node has none.
@@ -175,11 +164,9 @@ impl Tree {
         ensures some { IfSome result (λ child. IsChildBy self.now node head child) }
         ensures none { IfNone result ((child : ℕ) → IsChildBy self.now node head child → ⊥) }
     {
-        match &self.nodes[node.key as usize].content {
-            Content::Inner(branches) => branches.child(head),
-            Content::One(_) => None,
-            Content::Many(_) => None,
-        }
+        let content = &self.nodes[node.key as usize].content;
+        let place = content.place(head)?;
+        Some(content.children()[place])
     }
 
     /// Appends a posting to those of a leaf. At an error the tree is as before.

@@ -67,7 +67,7 @@ pub split_in-requires : goal.split_in-requires
 split_in-requires c =
     let h = walk_at _ _ _ _ _ _ _ _ _ c.self.view_is c.in-Some.ensures.items c.visit.view_is c.loop-visit.invariant in
     let s = is_taken c.self.inside c.self.invariant _ _ _ _ _ h c.index-node.result.now c.index-node.ensures in
-    subst (HasNotedSplit c.index-node.result.now.content) (sym (c.as_slice-in-Some.ensures.value ∙ c.note_rights-opened.ensures.noted))
+    subst (HasNotedSplit (content_of c.index-node.result.now.content)) (sym (c.as_slice-in-Some.ensures.value ∙ c.note_rights-opened.ensures.noted))
     (split_known c.self.inside c.self.invariant _ _ c.index-node.result.now s)
 
 pub loop-visit-smaller : goal.loop-visit-smaller
@@ -84,11 +84,11 @@ loop-visit-preserved c =
     let opened = c.note_rights-opened.ensures.next in
     let numbers = c.note_rights-opened.ensures.noted in
     let bindings = c.in_ok-renumbered.ensures ∙ ap (λ l. renumbered_pairs (noted_number l) c.index-node.result.now.bindings) (c.as_slice.ensures.value ∙ numbers) in
-    let split = c.split_in.ensures ∙ ap (split_in c.index-node.result.now.content) (c.as_slice-in-Some.ensures.value ∙ numbers) in
+    let split = c.split_in.ensures ∙ ap (split_in (content_of c.index-node.result.now.content)) (c.as_slice-in-Some.ensures.value ∙ numbers) in
     let key = ap (λ v. v.node) (sym c.visit.view_is) in
     turned_to c.self.inside c.self.invariant _ _ _ _ _ h c.index-node.result.now c.index-node.ensures _ _ _ _ _
     c.self.view_is
-    (c.in_ok-stack_children.ensures ∙ (λ i. c.pop.new.self.items ++ visits (opened i) (children_of (content_of c.index-node.result.now.content))))
+    (c.in_ok-stack.ensures ∙ ap (λ cs. c.pop.new.self.items ++ visits c.note_rights-opened.result cs) c.children.ensures ∙ (λ i. c.pop.new.self.items ++ visits (opened i) (children_of (content_of c.index-node.result.now.content))))
     numbers
     (c.in_ok-push-2.ensures.items ∙ (λ i. c.loop-visit.nodes.items ++ record { node = key i; bindings = bindings i; split = split i } ∷ []))
     (c.max-next.ensures ∙ ap (max c.loop-visit.next) opened)

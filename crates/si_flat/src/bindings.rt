@@ -16,11 +16,10 @@ use std::marker::Model;
 #[derive(Drop)]
 pub struct Bindings {
     cells: Vec<Cell>,
-    count: usize,
 }
 
 impl Model for Bindings {
-    ghost use Rattle.std.specs.Prelude.{◌≡◌, List, length};
+    ghost use Rattle.std.specs.Prelude.{List};
     ghost use Rattle.si_defs.specs.Substitutions.{AreDistinct};
     ghost use Rattle.si_flat.specs.Rows.{CellPair, IsRow, left_sides, pairs_of};
 
@@ -28,7 +27,7 @@ impl Model for Bindings {
 
     ghost view = { λ b. pairs_of b.cells.items };
 
-    ghost invariant = { λ b. IsRow b.cells.items × (b.count ≡ length (pairs_of b.cells.items))
+    ghost invariant = { λ b. IsRow b.cells.items
         × AreDistinct (left_sides (pairs_of b.cells.items)) };
 }
 
@@ -83,7 +82,6 @@ impl Bindings {
     {
         Bindings {
             cells: Vec::new(alloc),
-            count: 0,
         }
     }
 
@@ -93,7 +91,6 @@ impl Bindings {
     {
         Ok(Bindings {
             cells: Vec::with_capacity(alloc, cells)?,
-            count: 0,
         })
     }
 
@@ -103,10 +100,7 @@ impl Bindings {
     {
         let mut cells = Vec::with_capacity(alloc, self.cells.len())?;
         cells.extend_from_slice(self.cells.as_slice())?;
-        Ok(Bindings {
-            cells,
-            count: self.count,
-        })
+        Ok(Bindings { cells })
     }
 
     /// Appends a binding. At an error the list is as before.
@@ -117,15 +111,17 @@ impl Bindings {
         ensures err { OnErr result (self.new ≡ self.old) }
     {
         append_pair(&mut self.cells, left, right)?;
-        self.count += 1;
         Ok(())
     }
 
-    /// The number of bindings.
+    /// The number of bindings. They are counted by a walk.
     pub fn len(&self) -> usize
         ensures { result ≡ length self.now }
     {
-        self.count
+        let pairs = Pairs {
+            cells: self.cells.as_slice(),
+        };
+        pairs.count()
     }
 
     /// The number of cells: one for each left side, and those of the right sides.

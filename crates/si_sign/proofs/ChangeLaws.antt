@@ -8,7 +8,7 @@ use Rattle.si_defs.specs.Symbols.{Symbol, same_symbol}
 use Rattle.si_defs.specs.declared.SymKind.{SymKind}
 use Rattle.si_state.specs.Signatures.{uses_of, KeepsNumbers}
 use Rattle.si_term.specs.Terms.{symbol_of}
-use Rattle.si_sign.specs.Keys.{symbol_key}
+use Rattle.si_sign.specs.Uses.{key_in}
 use Rattle.si_sign.specs.Uses.{seen, IsUses}
 use Rattle.si_sign.specs.declared.uses.CountedSymbol.{CountedSymbol}
 use Rattle.si_sign.specs.declared.uses.Uses.{Uses}
@@ -34,9 +34,9 @@ key_if_some k (Some c) key h = record { counted = c; there = refl; same = sym (s
 -- The slot with the key k is one of this kind and text, or of no symbol, before and after.
 pub record Changes (t v : Uses) (kind : SymKind) (text : Bytes) (k : ℕ) : Type 0 where
   pub others : (j : ℕ) → (j ≡ k → ⊥) → get v.slots j ≡ get t.slots j
-  pub keys : (l : SymKind) (x : Bytes) → (l ≡ kind → x ≡ text → ⊥) → symbol_key v.keys l x ≡ symbol_key t.keys l x
-  pub was : symbol_key t.keys kind text ≡ key_if k (get t.slots k)
-  pub is : symbol_key v.keys kind text ≡ key_if k (get v.slots k)
+  pub keys : (l : SymKind) (x : Bytes) → (l ≡ kind → x ≡ text → ⊥) → key_in v l x ≡ key_in t l x
+  pub was : key_in t kind text ≡ key_if k (get t.slots k)
+  pub is : key_in v kind text ≡ key_if k (get v.slots k)
   pub before : (c : CountedSymbol) → get t.slots k ≡ Some c → (c.sym.kind ≡ kind) × (c.sym.text ≡ text)
   pub after : (c : CountedSymbol) → get v.slots k ≡ Some c → (c.sym.kind ≡ kind) × (c.sym.text ≡ text)
   pub used : (c : CountedSymbol) → get v.slots k ≡ Some c → 1 ≤ c.uses
@@ -44,7 +44,7 @@ pub record Changes (t v : Uses) (kind : SymKind) (text : Bytes) (k : ℕ) : Type
   pub sum : v.total + uses_in (get t.slots k) ≡ t.total + uses_in (get v.slots k)
   pub few : v.total ≤ MOST_USES
 
-uses_here : (u : Uses) → IsUses u → (s : Symbol) (k : ℕ) (o : Option CountedSymbol) → get u.slots k ≡ o → symbol_key u.keys s.kind s.text ≡ key_if k o → uses_of (seen u) s ≡ uses_for o s
+uses_here : (u : Uses) → IsUses u → (s : Symbol) (k : ℕ) (o : Option CountedSymbol) → get u.slots k ≡ o → key_in u s.kind s.text ≡ key_if k o → uses_of (seen u) s ≡ uses_for o s
 uses_here u facts s k None there key = uses_unknown u facts s key
 uses_here u facts s k (Some c) there key = uses_known u facts s k c key there
 
@@ -60,7 +60,7 @@ uses_apart (Some c) s kind text of apart = by (same_symbol (symbol_of c.sym) s) 
 
 module _ (t v : Uses) (kind : SymKind) (text : Bytes) (k : ℕ) (facts : IsUses t) (change : Changes t v kind text k) where
   -- what is found under another kind and text stands in another slot
-  other_slot : (l : SymKind) (x : Bytes) (j : ℕ) → symbol_key t.keys l x ≡ Some j → (l ≡ kind → x ≡ text → ⊥) → j ≡ k → ⊥
+  other_slot : (l : SymKind) (x : Bytes) (j : ℕ) → key_in t l x ≡ Some j → (l ≡ kind → x ≡ text → ⊥) → j ≡ k → ⊥
   other_slot l x j known apart e =
       let r = facts.found l x j known in
       let b = change.before r.0 (ap (get t.slots) (sym e) ∙ r.1) in
@@ -69,25 +69,25 @@ module _ (t v : Uses) (kind : SymKind) (text : Bytes) (k : ℕ) (facts : IsUses 
   -- what stands in another slot is of another kind or text
   other_name : (j : ℕ) (c : CountedSymbol) → get t.slots j ≡ Some c → (j ≡ k → ⊥) → c.sym.kind ≡ kind → c.sym.text ≡ text → ⊥
   other_name j c there apart e f =
-      apart (key_if_some k (get t.slots k) j (sym change.was ∙ (λ n. symbol_key t.keys (sym e n) (sym f n)) ∙ facts.held j c there)).same
+      apart (key_if_some k (get t.slots k) j (sym change.was ∙ (λ n. key_in t (sym e n) (sym f n)) ∙ facts.held j c there)).same
 
-  held : (j : ℕ) (c : CountedSymbol) → get v.slots j ≡ Some c → symbol_key v.keys c.sym.kind c.sym.text ≡ Some j
+  held : (j : ℕ) (c : CountedSymbol) → get v.slots j ≡ Some c → key_in v c.sym.kind c.sym.text ≡ Some j
   held j c there =
       elim (eqb_tells j k) [
         | inl e ↦
             let here = ap (get v.slots) (sym e.1) ∙ there in
             let a = change.after c here in
-            (λ n. symbol_key v.keys (a.0 n) (a.1 n)) ∙ change.is ∙ ap (key_if k) here ∙ ap Some (sym e.1)
+            (λ n. key_in v (a.0 n) (a.1 n)) ∙ change.is ∙ ap (key_if k) here ∙ ap Some (sym e.1)
         | inr e ↦
             let before = sym (change.others j e.1) ∙ there in
             change.keys c.sym.kind c.sym.text (other_name j c before e.1) ∙ facts.held j c before
       ]
 
-  found : (l : SymKind) (x : Bytes) (j : ℕ) → symbol_key v.keys l x ≡ Some j → (c : CountedSymbol) × (get v.slots j ≡ Some c) × (c.sym.kind ≡ l) × (c.sym.text ≡ x)
+  found : (l : SymKind) (x : Bytes) (j : ℕ) → key_in v l x ≡ Some j → (c : CountedSymbol) × (get v.slots j ≡ Some c) × (c.sym.kind ≡ l) × (c.sym.text ≡ x)
   found l x j known = by (name_either l kind x text) where
     by : ((l ≡ kind) × (x ≡ text)) ⊎ (l ≡ kind → x ≡ text → ⊥) → (c : CountedSymbol) × (get v.slots j ≡ Some c) × (c.sym.kind ≡ l) × (c.sym.text ≡ x)
     by (inl e) =
-        let r = key_if_some k (get v.slots k) j (sym change.is ∙ (λ n. symbol_key v.keys (sym e.0 n) (sym e.1 n)) ∙ known) in
+        let r = key_if_some k (get v.slots k) j (sym change.is ∙ (λ n. key_in v (sym e.0 n) (sym e.1 n)) ∙ known) in
         let a = change.after r.counted r.there in
         (r.counted, ap (get v.slots) r.same ∙ r.there, a.0 ∙ sym e.0, a.1 ∙ sym e.1)
     by (inr apart) =
@@ -119,7 +119,7 @@ module _ (t v : Uses) (kind : SymKind) (text : Bytes) (k : ℕ) (facts : IsUses 
     few = change.few;
   }
 
-  same_uses : (s : Symbol) → (s.kind ≡ kind → s.text ≡ text → ⊥) → (o : Option ℕ) → symbol_key t.keys s.kind s.text ≡ o → uses_of (seen v) s ≡ uses_of (seen t) s
+  same_uses : (s : Symbol) → (s.kind ≡ kind → s.text ≡ text → ⊥) → (o : Option ℕ) → key_in t s.kind s.text ≡ o → uses_of (seen v) s ≡ uses_of (seen t) s
   same_uses s apart None none =
       uses_unknown v changed s (change.keys s.kind s.text apart ∙ none) ∙ sym (uses_unknown t facts s none)
   same_uses s apart (Some j) known =
@@ -133,15 +133,15 @@ module _ (t v : Uses) (kind : SymKind) (text : Bytes) (k : ℕ) (facts : IsUses 
     by (inl e) =
         omega (
           arith,
-          uses_here t facts s k (get t.slots k) refl ((λ n. symbol_key t.keys (e.0 n) (e.1 n)) ∙ change.was),
-          uses_here v changed s k (get v.slots k) refl ((λ n. symbol_key v.keys (e.0 n) (e.1 n)) ∙ change.is),
+          uses_here t facts s k (get t.slots k) refl ((λ n. key_in t (e.0 n) (e.1 n)) ∙ change.was),
+          uses_here v changed s k (get v.slots k) refl ((λ n. key_in v (e.0 n) (e.1 n)) ∙ change.is),
         )
     by (inr apart) =
         omega (
           arith,
           uses_apart (get t.slots k) s kind text change.before apart,
           uses_apart (get v.slots k) s kind text change.after apart,
-          same_uses s apart (symbol_key t.keys s.kind s.text) refl,
+          same_uses s apart (key_in t s.kind s.text) refl,
         )
 
   pub keeps_numbers : KeepsNumbers (seen t) (seen v)
@@ -151,11 +151,11 @@ module _ (t v : Uses) (kind : SymKind) (text : Bytes) (k : ℕ) (facts : IsUses 
       let old = slot_key t facts x.slot x.counted s x.there x.is in
       let new = slot_key v changed y.slot y.counted s y.there y.is in
       by s x.slot y.slot old new m n x.twice y.twice (name_either s.kind kind s.text text) where
-        by : (s : Symbol) (i j : ℕ) → symbol_key t.keys s.kind s.text ≡ Some i → symbol_key v.keys s.kind s.text ≡ Some j → (m n : ℕ) → 2 * i ≡ m → 2 * j ≡ n
+        by : (s : Symbol) (i j : ℕ) → key_in t s.kind s.text ≡ Some i → key_in v s.kind s.text ≡ Some j → (m n : ℕ) → 2 * i ≡ m → 2 * j ≡ n
             → ((s.kind ≡ kind) × (s.text ≡ text)) ⊎ (s.kind ≡ kind → s.text ≡ text → ⊥) → m ≡ n
         by s i j old new m n p q (inl e) =
-            let f = key_if_some k (get t.slots k) i (sym change.was ∙ (λ h. symbol_key t.keys (sym e.0 h) (sym e.1 h)) ∙ old) in
-            let g = key_if_some k (get v.slots k) j (sym change.is ∙ (λ h. symbol_key v.keys (sym e.0 h) (sym e.1 h)) ∙ new) in
+            let f = key_if_some k (get t.slots k) i (sym change.was ∙ (λ h. key_in t (sym e.0 h) (sym e.1 h)) ∙ old) in
+            let g = key_if_some k (get v.slots k) j (sym change.is ∙ (λ h. key_in v (sym e.0 h) (sym e.1 h)) ∙ new) in
             omega (arith, p, q, f.same, g.same)
         by s i j old new m n p q (inr apart) =
             let f = same_Some i j (sym old ∙ sym (change.keys s.kind s.text apart) ∙ new) in

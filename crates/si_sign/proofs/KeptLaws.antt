@@ -12,7 +12,7 @@ use Rattle.si_defs.specs.declared.SymKind.{SymKind}
 use Rattle.si_defs.specs.Substitutions.{IsAmong, AreDistinct}
 use Rattle.si_state.specs.Signatures.{Used, Signature, IsSignature, keys, numbering, known_symbols, uses_of, total}
 use Rattle.si_term.specs.Terms.{symbol_of}
-use Rattle.si_sign.specs.Keys.{symbol_key}
+use Rattle.si_sign.specs.Uses.{key_in}
 use Rattle.si_sign.specs.Uses.{used_at, seen_from, seen, IsUses}
 use Rattle.si_sign.specs.declared.uses.CountedSymbol.{CountedSymbol}
 use Rattle.si_sign.specs.declared.uses.Uses.{Uses}
@@ -41,7 +41,7 @@ distinct n (Some c ∷ xs) one = (
 module _ (u : Uses) (facts : IsUses u) where
   pub one_shape : AreDistinct (keys (seen u))
   one_shape = distinct 0 u.slots.slots (λ i j c d a b k t.
-      same_Some i j (sym (facts.held i c a) ∙ (λ n. symbol_key u.keys (k n) (t n)) ∙ facts.held j d b))
+      same_Some i j (sym (facts.held i c a) ∙ (λ n. key_in u (k n) (t n)) ∙ facts.held j d b))
 
   -- the slot of a symbol in use
   pub record Kept (s : Symbol) : Type 0 where
@@ -50,8 +50,8 @@ module _ (u : Uses) (facts : IsUses u) where
     pub there : get u.slots slot ≡ Some counted
     pub is : symbol_of counted.sym ≡ s
 
-  pub slot_key : (k : ℕ) (c : CountedSymbol) (s : Symbol) → get u.slots k ≡ Some c → symbol_of c.sym ≡ s → symbol_key u.keys s.kind s.text ≡ Some k
-  slot_key k c s there e = (λ n. symbol_key u.keys (sym e n).kind (sym e n).text) ∙ facts.held k c there
+  pub slot_key : (k : ℕ) (c : CountedSymbol) (s : Symbol) → get u.slots k ≡ Some c → symbol_of c.sym ≡ s → key_in u s.kind s.text ≡ Some k
+  slot_key k c s there e = (λ n. key_in u (sym e n).kind (sym e n).text) ∙ facts.held k c there
 
   -- a symbol has one slot
   pub one_slot : (i j : ℕ) (c d : CountedSymbol) (s : Symbol) → get u.slots i ≡ Some c → get u.slots j ≡ Some d → symbol_of c.sym ≡ s → symbol_of d.sym ≡ s → i ≡ j
@@ -115,15 +115,15 @@ module _ (u : Uses) (facts : IsUses u) where
   }
 
   -- a kind and text without a key aren't in use
-  pub no_key : (kind : SymKind) (text : Bytes) → symbol_key u.keys kind text ≡ None → IsAmong (keys (seen u)) (kind, text) → ⊥
+  pub no_key : (kind : SymKind) (text : Bytes) → key_in u kind text ≡ None → IsAmong (keys (seen u)) (kind, text) → ⊥
   no_key kind text none h =
       let m = keys_among (seen u) (kind, text) h in
       let t = seen_among 0 u.slots.slots m.used m.among in
       let pair : key (used_at (0 + t.key) t.counted) ≡ (kind, text) = ap key t.is ∙ m.is in
-      let clash : None ≡ Some t.key = sym none ∙ (λ n. symbol_key u.keys (sym pair n).0 (sym pair n).1) ∙ facts.held t.key t.counted t.there in
+      let clash : None ≡ Some t.key = sym none ∙ (λ n. key_in u (sym pair n).0 (sym pair n).1) ∙ facts.held t.key t.counted t.there in
       cc
 
-  pub no_symbol : (s : Symbol) → symbol_key u.keys s.kind s.text ≡ None → (n : ℕ) → IsAmong (numbering (seen u)) (s, n) → ⊥
+  pub no_symbol : (s : Symbol) → key_in u s.kind s.text ≡ None → (n : ℕ) → IsAmong (numbering (seen u)) (s, n) → ⊥
   no_symbol s none n h =
       let x = slot_of s n h in
       let clash : None ≡ Some x.slot = sym none ∙ slot_key x.slot x.counted s x.there x.is in
@@ -139,13 +139,13 @@ uses_for None s = 0
 uses_for (Some c) s = cond (same_symbol (symbol_of c.sym) s) c.uses 0
 
 module _ (u : Uses) (facts : IsUses u) (s : Symbol) where
-  pub uses_unknown : symbol_key u.keys s.kind s.text ≡ None → uses_of (seen u) s ≡ 0
+  pub uses_unknown : key_in u s.kind s.text ≡ None → uses_of (seen u) s ≡ 0
   uses_unknown none = uses_absent (seen u) s (λ v h e.
       let k = kept_of u facts s (subst (IsAmong (known_symbols (seen u))) e (among_symbols (seen u) v h)) in
       let clash : None ≡ Some k.slot = sym none ∙ slot_key u facts k.slot k.counted s k.there k.is in
       cc)
 
-  pub uses_known : (k : ℕ) (c : CountedSymbol) → symbol_key u.keys s.kind s.text ≡ Some k → get u.slots k ≡ Some c → uses_of (seen u) s ≡ uses_for (Some c) s
+  pub uses_known : (k : ℕ) (c : CountedSymbol) → key_in u s.kind s.text ≡ Some k → get u.slots k ≡ Some c → uses_of (seen u) s ≡ uses_for (Some c) s
   uses_known k c known there = by (same_symbol (symbol_of c.sym) s) refl where
     by : (b : Bool) → same_symbol (symbol_of c.sym) s ≡ b → uses_of (seen u) s ≡ cond b c.uses 0
     by true e = ap (uses_of (seen u)) (sym (symbol_is (symbol_of c.sym) s e)) ∙ uses_at u facts k c there

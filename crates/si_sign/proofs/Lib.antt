@@ -1,3 +1,4 @@
+pub mod HashedLaws
 pub mod KeyLaws
 pub mod SeenLaws
 pub mod UsesOf

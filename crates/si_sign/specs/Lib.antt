@@ -1,5 +1,6 @@
 pub mod Shapes
 pub mod Stores
+pub mod Hashed
 pub mod Keys
 pub mod Uses
 pub mod Taking

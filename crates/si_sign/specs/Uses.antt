@@ -23,12 +23,16 @@ seen_from key (Some c ∷ slots) = used_at key c ∷ seen_from (1 + key) slots
 abbrev pub seen : Uses → Signature
 seen u = seen_from 0 u.slots.slots
 
+-- the key of a kind and text
+abbrev pub key_in : Uses → SymKind → Bytes → Option ℕ
+key_in u = symbol_key u.keys (get u.slots)
+
 -- Each symbol in use is found under its kind and text, and nothing else is found; and all uses are
 -- counted.
 pub record IsUses (u : Uses) : Type 0 where
   pub held : (key : ℕ) (c : CountedSymbol) → get u.slots key ≡ Some c
-      → symbol_key u.keys c.sym.kind c.sym.text ≡ Some key
-  pub found : (kind : SymKind) (text : Bytes) (key : ℕ) → symbol_key u.keys kind text ≡ Some key
+      → key_in u c.sym.kind c.sym.text ≡ Some key
+  pub found : (kind : SymKind) (text : Bytes) (key : ℕ) → key_in u kind text ≡ Some key
       → (c : CountedSymbol) × (get u.slots key ≡ Some c) × (c.sym.kind ≡ kind) × (c.sym.text ≡ text)
   pub used : (key : ℕ) (c : CountedSymbol) → get u.slots key ≡ Some c → 1 ≤ c.uses
   pub below : (key : ℕ) (c : CountedSymbol) → get u.slots key ≡ Some c → key < MOST_USES

@@ -1,78 +1,82 @@
-// Keys by kind and text.
-ghost use Rattle.std.specs.Prelude.{◌≡◌, List, ℕ, Some, None, OnOk, OnErr};
+// Keys of the symbols in use.
+ghost use Rattle.std.specs.Prelude.{◌≡◌, List, ℕ, None, OnOk, OnErr};
+ghost use Rattle.slab.specs.Slab.{get};
 ghost use Rattle.si_defs.specs.declared.SymKind.{SymKind as Kind};
-ghost use Rattle.si_sign.specs.Keys.{symbol_key, HasAtKind};
+ghost use Rattle.si_term.specs.Terms.{symbol_of};
+ghost use Rattle.si_sign.specs.Hashed.{hashed_key};
+ghost use Rattle.si_sign.specs.Keys.{is_named, kind_key, symbol_key, LeadsTo, LeadsAway, StayLed};
 
-use crate::texts::TextKeys;
+use crate::hashed::HashedKeys;
+use crate::kinds::KindKeys;
+use crate::uses::CountedSymbol;
 use si_defs::SymKind;
-use si_term::Text;
+use si_term::Sym;
+use slab::Slab;
 use std::alloc::{AllocError, Global};
 
-/// A finite map from kinds and texts to keys: one map from texts for each kind, so that a look-up
-/// takes no memory.
+/// A map from kinds and texts of symbols to their keys in a slab. Of the texts with one hash only
+/// the first is found by the hash, and is no copy: it stands in the slab alone.
 #[derive(Drop)]
 pub struct SymbolKeys {
-    words: TextKeys,
-    dollars: TextKeys,
-    numbers: TextKeys,
-    distincts: TextKeys,
-    equals: TextKeys,
+    hashed: HashedKeys,
+    // Of the symbols whose hash led to another one already.
+    others: KindKeys,
 }
 
 impl SymbolKeys {
     /// The empty map.
     pub fn new(alloc: Global) -> SymbolKeys
-        ensures { (kind : Kind) (text : List ℕ) → symbol_key result kind text ≡ None }
+        ensures hashed { (text : List ℕ) → hashed_key result.hashed text ≡ None }
+        ensures others { (kind : Kind) (text : List ℕ) → kind_key result.others kind text ≡ None }
     {
         SymbolKeys {
-            words: TextKeys::new(alloc),
-            dollars: TextKeys::new(alloc),
-            numbers: TextKeys::new(alloc),
-            distincts: TextKeys::new(alloc),
-            equals: TextKeys::new(alloc),
+            hashed: HashedKeys::new(alloc),
+            others: KindKeys::new(alloc),
         }
     }
 
-    /// The key of the kind and text.
-    pub fn get(&self, kind: SymKind, text: &[u8]) -> Option<usize>
-        ensures { result ≡ symbol_key self.now kind text.now }
+    /// The key of the kind and text, of symbols in these slots.
+    pub fn get(&self, slots: &Slab<CountedSymbol>, kind: SymKind, text: &[u8]) -> Option<usize>
+        ensures { result ≡ symbol_key self.now (get slots.now) kind text.now }
     {
-        match kind {
-            SymKind::Word => self.words.get(text),
-            SymKind::Dollar => self.dollars.get(text),
-            SymKind::Number => self.numbers.get(text),
-            SymKind::Distinct => self.distincts.get(text),
-            SymKind::Equal => self.equals.get(text),
+        let Some(key) = self.hashed.get(text) else {
+            return self.others.get(kind, text);
+        };
+        if is_at(slots, key, kind, text) {
+            return Some(key);
         }
+        self.others.get(kind, text)
     }
 
-    /// Gives the kind and text this key. At an error the map is as before.
-    pub fn insert(&mut self, kind: SymKind, text: Text, key: usize) -> Result<(), AllocError>
-        ensures ok { OnOk result (HasAtKind kind text (Some key)
-            (symbol_key self.old) (symbol_key self.new)) }
-        ensures err { OnErr result ((k : Kind) (t : List ℕ) → symbol_key self.new k t
-            ≡ symbol_key self.old k t) }
+    /// Has the kind and text of a symbol that has no key lead to this one. At an error the map is
+    /// as before.
+    pub fn insert(&mut self, alloc: Global, symbol: &Sym, key: usize) -> Result<(), AllocError>
+        ensures ok { OnOk result (LeadsTo symbol.now.kind symbol.now.text key self.old self.new) }
+        ensures err { OnErr result (StayLed self.old self.new) }
     {
-        match kind {
-            SymKind::Word => self.words.insert(text, key),
-            SymKind::Dollar => self.dollars.insert(text, key),
-            SymKind::Number => self.numbers.insert(text, key),
-            SymKind::Distinct => self.distincts.insert(text, key),
-            SymKind::Equal => self.equals.insert(text, key),
+        if self.hashed.insert(symbol.text.as_bytes(), key)? {
+            return Ok(());
         }
+        let text = symbol.text.copy(alloc)?;
+        self.others.insert(symbol.kind, text, key)
     }
 
-    /// Takes the kind and text out, and answers their key.
-    pub fn remove(&mut self, kind: SymKind, text: &[u8]) -> Option<usize>
-        ensures key { result ≡ symbol_key self.old kind text.now }
-        ensures gone { HasAtKind kind text.now None (symbol_key self.old) (symbol_key self.new) }
+    /// Has the kind and text of a symbol lead to its key no more. It takes no memory.
+    pub fn remove(&mut self, symbol: &Sym, key: usize)
+        ensures { LeadsAway symbol.now.kind symbol.now.text key self.old self.new }
     {
-        match kind {
-            SymKind::Word => self.words.remove(text),
-            SymKind::Dollar => self.dollars.remove(text),
-            SymKind::Number => self.numbers.remove(text),
-            SymKind::Distinct => self.distincts.remove(text),
-            SymKind::Equal => self.equals.remove(text),
-        }
+        let text = symbol.text.as_bytes();
+        self.hashed.remove(text, key);
+        self.others.remove(symbol.kind, text);
     }
+}
+
+/// Whether the slot with this key has a symbol of the kind and text.
+fn is_at(slots: &Slab<CountedSymbol>, key: usize, kind: SymKind, text: &[u8]) -> bool
+    ensures { result ≡ is_named kind text.now (get slots.now key) }
+{
+    let Some(counted) = slots.get(key) else {
+        return false;
+    };
+    counted.sym.kind == kind && counted.sym.text.as_bytes() == text
 }

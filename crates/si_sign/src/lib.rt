@@ -5,7 +5,9 @@
 #![tactic(auto)]
 
 pub mod faults;
+pub mod hashed;
 mod keys;
+mod kinds;
 mod plain;
 mod recent;
 mod short;
@@ -16,6 +18,7 @@ mod uses;
 mod walk;
 
 pub use faults::{AddFault, Clash, Rejected, Shape, TakeFault};
+pub use hashed::HashedKeys;
 pub use plain::PlainStore;
 pub use short::ShortStore;
 pub use signature::Signature;

@@ -99,7 +99,7 @@ impl Signature {
         ensures none { IfNone result (IsAmong (keys self.now) (kind, text.now) → ⊥) }
         ensures signature { IsSignature self.now }
     {
-        let Some(key) = self.uses.keys.get(kind, text) else {
+        let Some(key) = self.uses.key_of(kind, text) else {
             return None;
         };
         let counted = &self.uses.slots[key];

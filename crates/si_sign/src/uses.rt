@@ -4,15 +4,14 @@ ghost use Rattle.slab.specs.Slab.{get};
 ghost use Rattle.si_defs.specs.Symbols.{same_side};
 ghost use Rattle.si_state.specs.Signatures.{uses_of};
 ghost use Rattle.si_term.specs.Terms.{symbol_of};
-ghost use Rattle.si_sign.specs.Keys.{symbol_key};
 ghost use Rattle.si_sign.specs.Shapes.{shape_of};
-ghost use Rattle.si_sign.specs.Uses.{seen, IsUses};
+ghost use Rattle.si_sign.specs.Uses.{key_in, seen, IsUses};
 ghost use Rattle.si_sign.specs.Taking.{TakesUses, GivesBack, RefusesFrom};
 
 use crate::faults::{Clash, Shape, TakeFault};
 use crate::keys::SymbolKeys;
 use crate::recent::Recent;
-use si_defs::Side;
+use si_defs::{Side, SymKind};
 use si_term::Sym;
 use slab::Slab;
 use std::alloc::{AllocError, Global};
@@ -54,13 +53,20 @@ impl Uses {
     /// in the map.
     pub fn find(&self, symbol: &Sym) -> Option<usize>
         requires { IsUses self.now }
-        ensures { result ≡ symbol_key self.now.keys symbol.now.kind symbol.now.text }
+        ensures { result ≡ key_in self.now symbol.now.kind symbol.now.text }
     {
         let likely = self.recent.likely(symbol.text.as_bytes());
         if self.stands_at(likely, symbol) {
             return Some(likely);
         }
-        self.keys.get(symbol.kind, symbol.text.as_bytes())
+        self.key_of(symbol.kind, symbol.text.as_bytes())
+    }
+
+    /// The key of a kind and text.
+    pub fn key_of(&self, kind: SymKind, text: &[u8]) -> Option<usize>
+        ensures { result ≡ key_in self.now kind text.now }
+    {
+        self.keys.get(&self.slots, kind, text)
     }
 
     /// Whether the symbol has this key.
@@ -100,7 +106,7 @@ impl Uses {
         requires uses { IsUses self.old }
         requires begun { begin ≤ self.old.total }
         requires room { self.old.total < MOST_USES }
-        requires key { symbol_key self.old.keys symbol.now.kind symbol.now.text ≡ Some key }
+        requires key { key_in self.old symbol.now.kind symbol.now.text ≡ Some key }
         ensures uses { IsUses self.new }
         ensures ok { OnOk result (TakesUses (symbol_of symbol.now ∷ []) (seen self.old)
             (seen self.new)) }
@@ -126,7 +132,7 @@ impl Uses {
     fn take_new(&mut self, alloc: Global, symbol: &Sym) -> Result<(), AllocError>
         requires uses { IsUses self.old }
         requires room { self.old.total < MOST_USES }
-        requires none { symbol_key self.old.keys symbol.now.kind symbol.now.text ≡ None }
+        requires none { key_in self.old symbol.now.kind symbol.now.text ≡ None }
         ensures uses { IsUses self.new }
         ensures ok { OnOk result (TakesUses (symbol_of symbol.now ∷ []) (seen self.old)
             (seen self.new)) }
@@ -137,9 +143,8 @@ impl Uses {
             return Err(AllocError);
         }
         let sym = symbol.copy(alloc)?;
-        let text = symbol.text.copy(alloc)?;
         self.slots.reserve(1)?;
-        self.keys.insert(symbol.kind, text, key)?;
+        self.keys.insert(alloc, symbol, key)?;
         self.slots.insert_reserved(CountedSymbol { sym, uses: 1 });
         self.total += 1;
         self.recent.note(symbol.text.as_bytes(), key);
@@ -161,7 +166,7 @@ impl Uses {
             self.slots[key].uses -= 1;
             return;
         }
-        self.keys.remove(symbol.kind, symbol.text.as_bytes());
+        self.keys.remove(symbol, key);
         let _counted = self.slots.remove(key);
     }
 }

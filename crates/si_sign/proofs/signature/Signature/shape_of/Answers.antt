@@ -12,7 +12,7 @@ pub returns-in_default-clause-none : goal.returns-in_default-clause-none
 returns-in_default-clause-none c =
     let u = c.self.inside.uses in
     subst (λ k. IsAmong (keys k) (c.args.kind, c.args.text.now) → ⊥) c.self.view_is
-    (no_key u c.self.invariant c.args.kind c.args.text.now (sym c.get.ensures ∙ c.in_default.is))
+    (no_key u c.self.invariant c.args.kind c.args.text.now (sym c.key_of.ensures ∙ c.in_default.is))
 
 pub returns-in_default-clause-signature : goal.returns-in_default-clause-signature
 returns-in_default-clause-signature c = subst IsSignature c.self.view_is (is_signature c.self.inside.uses c.self.invariant)
@@ -21,7 +21,7 @@ pub returns-clause-found : goal.returns-clause-found
 returns-clause-found c =
     let u = c.self.inside.uses in
     let w = c.index-counted.result.now in
-    let r = c.self.invariant.found c.args.kind c.args.text.now c.in-Some.key (sym c.get.ensures ∙ c.in-Some.is) in
+    let r = c.self.invariant.found c.args.kind c.args.text.now c.in-Some.key (sym c.key_of.ensures ∙ c.in-Some.is) in
     let same = same_Some r.0 w (sym r.1 ∙ c.index-counted.ensures) in
     let s : Symbol = record { kind = c.args.kind; text = c.args.text.now; side = c.shape.result.side; arity = c.shape.result.arity } in
     let is : record { kind = w.sym.kind; text = w.sym.text; side = w.sym.side; arity = w.sym.arity } ≡ s = λ i. record {

@@ -6,7 +6,7 @@ use Rattle.si_defs.specs.Symbols.{Symbol, IsNumbering, same_side}
 use Rattle.si_defs.specs.Substitutions.{IsAmong}
 use Rattle.si_state.specs.Signatures.{numbering}
 use Rattle.si_term.specs.Terms.{symbol_of}
-use Rattle.si_sign.specs.Keys.{symbol_key}
+use Rattle.si_sign.specs.Uses.{key_in}
 use Rattle.si_sign.specs.Uses.{seen}
 use Rattle.si_sign.specs.declared.uses.CountedSymbol.{CountedSymbol}
 use Rattle.si_defs.proofs.SymbolLaws.{side_is, side_self}
@@ -18,7 +18,7 @@ pub returns-in_default-clause-none : goal.returns-in_default-clause-none
 returns-in_default-clause-none c =
     let u = c.self.inside.uses in
     let s : Symbol = symbol_of c.args.sym.now in
-    let none : symbol_key u.keys s.kind s.text ≡ None = sym c.find.ensures ∙ c.in_default.is in
+    let none : key_in u s.kind s.text ≡ None = sym c.find.ensures ∙ c.in_default.is in
     subst (λ k. (n : ℕ) → IsAmong (numbering k) (s, n) → ⊥) c.self.view_is (no_symbol u c.self.invariant s none)
 
 pub returns-in_default-clause-numbering : goal.returns-in_default-clause-numbering
@@ -29,7 +29,7 @@ returns-then-not-has_shape_of-clause-none c =
     let u = c.self.inside.uses in
     let s : Symbol = symbol_of c.args.sym.now in
     let w = c.index-counted.result.now in
-    let known : symbol_key u.keys s.kind s.text ≡ Some c.in-Some.key = sym c.find.ensures ∙ c.in-Some.is in
+    let known : key_in u s.kind s.text ≡ Some c.in-Some.key = sym c.find.ensures ∙ c.in-Some.is in
     let none : (n : ℕ) → IsAmong (numbering (seen u)) (s, n) → ⊥ = λ n h.
     let x = slot_of u c.self.invariant s n h in
     let slot = same_Some x.slot c.in-Some.key (sym (slot_key u c.self.invariant x.slot x.counted s x.there x.is) ∙ known) in
@@ -47,7 +47,7 @@ returns-clause-found c =
     let s : Symbol = symbol_of c.args.sym.now in
     let w = c.index-counted.result.now in
     let key = c.in-Some.key in
-    let known : symbol_key u.keys s.kind s.text ≡ Some key = sym c.find.ensures ∙ c.in-Some.is in
+    let known : key_in u s.kind s.text ≡ Some key = sym c.find.ensures ∙ c.in-Some.is in
     let shape = and_parts (same_side s.side w.sym.side) (s.arity == w.sym.arity) (sym c.has_shape_of.ensures ∙ c.if-not-has_shape_of.false) in
     let is = same_shape s w (known_slot u c.self.invariant s key w known c.index-counted.ensures) (side_is s.side w.sym.side shape.0) (eqb-true s.arity w.sym.arity shape.1) in
     subst (λ k. IsAmong (numbering k) (s, 2 * key)) c.self.view_is

@@ -1,8 +1,8 @@
-use Rattle.std.proofs.Common.{◌≡◌, ◌-◌, ◌<◌, ◌≤◌, Some, None, refl, sym, ap, subst, ◌∙◌, arith}
+use Rattle.std.proofs.Common.{◌≡◌, ◌-◌, ◌<◌, ◌≤◌, Some, None, refl, sym, ap, ◌∙◌, arith}
 use Rattle.std.proofs.lemmas.Option.{same_Some}
 use Rattle.si_defs.specs.Symbols.{Symbol}
 use Rattle.si_term.specs.Terms.{symbol_of}
-use Rattle.si_sign.specs.Keys.{symbol_key, HasAtKind}
+use Rattle.si_sign.specs.Uses.{key_in}
 use Rattle.si_sign.specs.Uses.{seen}
 use Rattle.si_sign.specs.declared.uses.CountedSymbol.{CountedSymbol}
 use Rattle.si_sign.specs.declared.uses.Uses.{Uses}
@@ -29,7 +29,7 @@ returns-then-index-gt1-clause-uses c =
     let t = c.args.self.now in
     let s : Symbol = symbol_of c.args.symbol.now in
     let key = c.in-Some.key in
-    let known : symbol_key t.keys s.kind s.text ≡ Some key = sym c.find.ensures ∙ c.in-Some.is in
+    let known : key_in t s.kind s.text ≡ Some key = sym c.find.ensures ∙ c.in-Some.is in
     let w = c.index_mut.result.now in
     let there = c.index_mut.ensures.value in
     let d : CountedSymbol = record { sym = w.sym; uses = w.uses - 1 } in
@@ -44,7 +44,7 @@ returns-then-index-gt1-clause-back c =
     let t = c.args.self.now in
     let s : Symbol = symbol_of c.args.symbol.now in
     let key = c.in-Some.key in
-    let known : symbol_key t.keys s.kind s.text ≡ Some key = sym c.find.ensures ∙ c.in-Some.is in
+    let known : key_in t s.kind s.text ≡ Some key = sym c.find.ensures ∙ c.in-Some.is in
     let w = c.index_mut.result.now in
     let there = c.index_mut.ensures.value in
     let d : CountedSymbol = record { sym = w.sym; uses = w.uses - 1 } in
@@ -61,15 +61,14 @@ returns-clause-uses c =
     let t = c.args.self.now in
     let s : Symbol = symbol_of c.args.symbol.now in
     let key = c.in-Some.key in
-    let known : symbol_key t.keys s.kind s.text ≡ Some key = sym c.find.ensures ∙ c.in-Some.is in
+    let known : key_in t s.kind s.text ≡ Some key = sym c.find.ensures ∙ c.in-Some.is in
     let w = c.index.result.now in
     let there = c.index.ensures in
     let v : Uses = record { keys = c.remove.new.self; slots = c.remove-counted.new.self; total = t.total - 1; recent = tt } in
     let one : w.uses ≡ 1 = omega (arith, c.if-index-gt1.false, c.requires.uses.used key w there) in
     let positive : 1 ≤ t.total = omega (arith, uses_total (seen t) s, c.requires.used, c.requires.uses.counted) in
-    let keyed = subst (λ x. HasAtKind s.kind x None (symbol_key t.keys) (symbol_key v.keys)) c.as_bytes.ensures c.remove.ensures.gone in
     let gone = c.remove-counted.ensures.updates.changed in
-    let change = removed t v c.requires.uses s key w known there one keyed gone c.remove-counted.ensures.updates.others (omega arith) in
+    let change = removed t v c.requires.uses s key w known there one c.remove.ensures gone c.remove-counted.ensures.updates.others (omega arith) in
     changed t v s.kind s.text key c.requires.uses change
 
 pub returns-clause-back : goal.returns-clause-back
@@ -77,14 +76,13 @@ returns-clause-back c =
     let t = c.args.self.now in
     let s : Symbol = symbol_of c.args.symbol.now in
     let key = c.in-Some.key in
-    let known : symbol_key t.keys s.kind s.text ≡ Some key = sym c.find.ensures ∙ c.in-Some.is in
+    let known : key_in t s.kind s.text ≡ Some key = sym c.find.ensures ∙ c.in-Some.is in
     let w = c.index.result.now in
     let there = c.index.ensures in
     let v : Uses = record { keys = c.remove.new.self; slots = c.remove-counted.new.self; total = t.total - 1; recent = tt } in
     let one : w.uses ≡ 1 = omega (arith, c.if-index-gt1.false, c.requires.uses.used key w there) in
     let positive : 1 ≤ t.total = omega (arith, uses_total (seen t) s, c.requires.used, c.requires.uses.counted) in
-    let keyed = subst (λ x. HasAtKind s.kind x None (symbol_key t.keys) (symbol_key v.keys)) c.as_bytes.ensures c.remove.ensures.gone in
     let gone = c.remove-counted.ensures.updates.changed in
-    let change = removed t v c.requires.uses s key w known there one keyed gone c.remove-counted.ensures.updates.others (omega arith) in
+    let change = removed t v c.requires.uses s key w known there one c.remove.ensures gone c.remove-counted.ensures.updates.others (omega arith) in
     let is = slot_symbol t c.requires.uses s key w c.requires.used known there in
     gives_step t v s key (Some w) None c.requires.uses change there gone (first_use s w is one) (omega arith)

@@ -3,17 +3,17 @@ use Rattle.std.proofs.lemmas.Result.{on_err_weaker}
 use Rattle.si_defs.specs.Bytes.{Bytes}
 use Rattle.si_defs.specs.declared.SymKind.{SymKind}
 use Rattle.si_defs.specs.declared.SymKind.TheVariants.{Word, Dollar, Number, Distinct, Equal}
-use Rattle.si_sign.specs.Keys.{text_key, symbol_key}
+use Rattle.si_sign.specs.Keys.{text_key, kind_key}
 use Rattle.si_sign.specs.declared.texts.TextKeys.{TextKeys}
-use Rattle.si_sign.specs.declared.keys.SymbolKeys.{SymbolKeys}
-use Rattle.si_sign.proofs.keys.SymbolKeys.insert.Goals as goal
+use Rattle.si_sign.specs.declared.kinds.KindKeys.{KindKeys}
+use Rattle.si_sign.proofs.kinds.KindKeys.insert.Goals as goal
 
 -- maps from texts with the same keys
 abbrev Alike : TextKeys → TextKeys → Type 0
 Alike one two = (text : Bytes) → text_key one text ≡ text_key two text
 
-alike : (one two : SymbolKeys) → Alike one.words two.words → Alike one.dollars two.dollars → Alike one.numbers two.numbers → Alike one.distincts two.distincts
-    → Alike one.equals two.equals → (kind : SymKind) (text : Bytes) → symbol_key one kind text ≡ symbol_key two kind text
+alike : (one two : KindKeys) → Alike one.words two.words → Alike one.dollars two.dollars → Alike one.numbers two.numbers → Alike one.distincts two.distincts
+    → Alike one.equals two.equals → (kind : SymKind) (text : Bytes) → kind_key one kind text ≡ kind_key two kind text
 alike one two words dollars numbers distincts equals Word text = words text
 alike one two words dollars numbers distincts equals Dollar text = dollars text
 alike one two words dollars numbers distincts equals Number text = numbers text

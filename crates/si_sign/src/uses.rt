@@ -62,7 +62,8 @@ impl Uses {
         self.key_of(symbol.kind, symbol.text.as_bytes())
     }
 
-    /// The key of a kind and text.
+    /// The key of a kind and text. Most symbols were found of late, so this isn't inlined.
+    #[inline(never)]
     pub fn key_of(&self, kind: SymKind, text: &[u8]) -> Option<usize>
         ensures { result ≡ key_in self.now kind text.now }
     {

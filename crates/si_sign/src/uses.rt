@@ -50,35 +50,26 @@ impl Uses {
     }
 
     /// The key of a symbol's kind and text. Where the symbol was found of late, it isn't looked for
-    /// in the map.
+    /// in the map. The two calls of the map keep it out of line, which spares what most calls do.
     pub fn find(&self, symbol: &Sym) -> Option<usize>
         requires { IsUses self.now }
         ensures { result ≡ key_in self.now symbol.now.kind symbol.now.text }
     {
         let likely = self.recent.likely(symbol.text.as_bytes());
-        if self.stands_at(likely, symbol) {
+        let Some(counted) = self.slots.get(likely) else {
+            return self.key_of(symbol.kind, symbol.text.as_bytes());
+        };
+        if counted.sym.is(symbol) {
             return Some(likely);
         }
         self.key_of(symbol.kind, symbol.text.as_bytes())
     }
 
-    /// The key of a kind and text. Most symbols were found of late, so this isn't inlined.
-    #[inline(never)]
+    /// The key of a kind and text, by the map.
     pub fn key_of(&self, kind: SymKind, text: &[u8]) -> Option<usize>
         ensures { result ≡ key_in self.now kind text.now }
     {
         self.keys.get(&self.slots, kind, text)
-    }
-
-    /// Whether the symbol has this key.
-    fn stands_at(&self, key: usize, symbol: &Sym) -> bool
-        ensures { IsTrue result → (c : CountedSymbol) × (get self.now.slots key ≡ Some c)
-            × (symbol_of c.sym ≡ symbol_of symbol.now) }
-    {
-        let Some(counted) = self.slots.get(key) else {
-            return false;
-        };
-        counted.sym.is(symbol)
     }
 
     /// Counts one more occurrence of a symbol. `begin` is the number of uses before its clause.

@@ -35,7 +35,7 @@ use Rattle.si_state.specs.States.{Rules}
 use Rattle.si_sign.proofs.StateLaws.{signature_of_none}
 use Rattle.si_sign.proofs.StoreLaws.{stored_none}
 use Rattle.std.proofs.lemmas.Option.{none-some}
-use Rattle.si_index.specs.Names.{key_of}
+use Rattle.si_index.specs.Names.{key_in}
 use Rattle.si_index.specs.Stored.{keyed_clauses, IsKept, AreHeld}
 use Rattle.si_index.specs.Register.{IsRegisterOf, Enters, Uncounts, Leaves, Stays}
 use Rattle.si_index.specs.declared.register.Register.{Register}
@@ -134,12 +134,12 @@ module _ (items : List (ℕ × term.Clause)) (register : Register) (trees : TwoT
   uncounted_held c between new after enters now undone =
       still_held between new items after now undone.signature undone.numbers (λ s. omega (arith, enters.uses s, is.signed s, undone.uses s))
 
-  pub stays_held : (new : Register) → Stays register new → AreHeld items new trees
+  pub stays_held : (new : Register) → Stays items register new → AreHeld items new trees
   stays_held new same = still_held register new items trees held same.signature same.numbers (λ s. omega (arith, same.uses s, is.signed s))
 
   -- a clause goes from the trees, and then from the register
   pub left_held : (key : ℕ) (c : term.Clause) (rest : List (ℕ × term.Clause)) (new : Register) (after : TwoTrees) → IsTakenOut items key c rest → RemovesClause key trees after → AreLegal after
-      → IsRegisterOf rest new → Leaves (clause_of c) register new → AreHeld rest new after
+      → IsRegisterOf rest new → Leaves (clause_of c) key register new → AreHeld rest new after
   left_held key c rest new after out removes legal is_new leaves =
       still_held register new rest after (held_less (numbering register.signature) items rest key c trees after held out removes legal) leaves.counts.signature leaves.counts.numbers (λ s. omega (arith, is_new.signed s))
 
@@ -164,7 +164,7 @@ none_held items register trees none unknown alone =
       vacant true key other = alone.0.others key other
       vacant false key other = alone.1.others key other
 
-pub none_kept : (rules : Rules) (items : List (ℕ × term.Clause)) (register : Register) → rules.entries ≤ MOST_OCCURRENCES → items ≡ [] → ((name : Name) → key_of register.names name ≡ None) → register.signature ≡ []
+pub none_kept : (rules : Rules) (items : List (ℕ × term.Clause)) (register : Register) → rules.entries ≤ MOST_OCCURRENCES → items ≡ [] → ((name : Name) → key_in [] register.names name ≡ None) → register.signature ≡ []
     → register.entries ≡ 0 → IsKept rules items register
 none_kept rules items register small none unnamed unknown uncounted =
     subst (λ l. IsKept rules l register) (sym none)

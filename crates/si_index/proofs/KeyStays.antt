@@ -12,9 +12,7 @@ use Rattle.si_term.specs.Meaning.{clause_of}
 use Rattle.si_term.specs.declared.clause.Clause as term
 use Rattle.si_keyed.specs.Keyed.{item_keys}
 use Rattle.si_index.specs.Kept.{Kept, AreKeyed, KeysStay, clauses_of}
-use Rattle.si_index.specs.Register.{AreNamed}
-use Rattle.si_index.specs.Names.{key_of, ChangesName}
-use Rattle.si_index.specs.declared.names.ClauseNames.{ClauseNames}
+use Rattle.si_index.specs.Names.{AreNamed, ChangesName}
 use Rattle.si_index.proofs.NameLaws.{name_either}
 
 -- trees of which nothing is said
@@ -40,16 +38,16 @@ among_keyed [] key n c k h = absurd (none-some _ h)
 among_keyed (x ∷ items) key zero c k h = (x.1, inl (λ i. (same_Some _ _ k i, x.1)), same_Some _ _ h)
 among_keyed (x ∷ items) key (suc n) c k h = let found = among_keyed items key n c k h in (found.0, inr found.1, found.2)
 
-pub keys_stay : (old new : List (ℕ × term.Clause)) (was is : ClauseNames) → AreNamed old was → AreNamed new is
-    → ((name : Name) (m n : ℕ) → key_of was name ≡ Some m → key_of is name ≡ Some n → m ≡ n) → KeysStay (kept_as old) (kept_as new)
+pub keys_stay : (old new : List (ℕ × term.Clause)) (was is : Name → Option ℕ) → AreNamed old was → AreNamed new is
+    → ((name : Name) (m n : ℕ) → was name ≡ Some m → is name ≡ Some n → m ≡ n) → KeysStay (kept_as old) (kept_as new)
 keys_stay old new was is before after same c m n a b =
     let one = among_keyed old m a.0 c a.1 a.2 in
     let other = among_keyed new n b.0 c b.1 b.2 in
     same c.name m n
-    (ap (λ (d : Clause). key_of was d.name) (sym one.2) ∙ before.listed m one.0 one.1)
-    (ap (λ (d : Clause). key_of is d.name) (sym other.2) ∙ after.listed n other.0 other.1)
+    (ap (λ (d : Clause). was d.name) (sym one.2) ∙ before.listed m one.0 one.1)
+    (ap (λ (d : Clause). is d.name) (sym other.2) ∙ after.listed n other.0 other.1)
 
-pub keys_same : (items : List (ℕ × term.Clause)) (names : ClauseNames) → AreNamed items names → KeysStay (kept_as items) (kept_as items)
+pub keys_same : (items : List (ℕ × term.Clause)) (names : Name → Option ℕ) → AreNamed items names → KeysStay (kept_as items) (kept_as items)
 keys_same items names are = keys_stay items items names names are are (λ name m n a b. same_Some _ _ (sym a ∙ b))
 
 -- where one name comes or goes, the others lead to what they led to

@@ -12,6 +12,7 @@ mod KeyStays
 mod RegisterLaws
 mod NameLaws
 mod NamedLaws
+mod FoundNames
 mod ScreenLaws
 mod ComparedLaws
 pub mod SlotLaws

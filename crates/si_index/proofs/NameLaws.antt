@@ -9,7 +9,7 @@ use Rattle.si_defs.proofs.SymbolLaws.{text_either}
 use Rattle.si_defs.proofs.NameLaws.{name_is}
 use Rattle.si_sign.specs.Keys.{text_key}
 use Rattle.si_index.specs.Names.{of_name_kind, key_of, ChangesName}
-use Rattle.si_index.specs.declared.names.ClauseNames.{ClauseNames}
+use Rattle.si_index.specs.declared.name_keys.NameKeys.{NameKeys}
 
 -- ---- names are one or not
 same_kind_either : (a b : NameKind) → (a ≡ b) ⊎ (a ≡ b → ⊥)
@@ -26,7 +26,7 @@ name_either m n = by (same_kind_either m.kind n.kind) (text_either m.text n.text
   by (inr f) t = inr (λ e. f (ap (λ (n : Name). n.kind) e))
 
 -- ---- a map changes
-module _ (old new : ClauseNames) (name : Name) (is : Option ℕ) where
+module _ (old new : NameKeys) (name : Name) (is : Option ℕ) where
   pub words_change : name.kind ≡ Word → HasAt name.text is (text_key old.words) (text_key new.words) → new.integers ≡ old.integers
       → ChangesName name is (key_of old) (key_of new)
   words_change kind change stays = record {
@@ -48,10 +48,10 @@ module _ (old new : ClauseNames) (name : Name) (is : Option ℕ) where
     by Int f e = f refl
 
 -- the map stays as it was, kind by kind
-pub words_stay : (old new : ClauseNames) → ((text : Bytes) → text_key new.words text ≡ text_key old.words text) → new.integers ≡ old.integers
+pub words_stay : (old new : NameKeys) → ((text : Bytes) → text_key new.words text ≡ text_key old.words text) → new.integers ≡ old.integers
     → (name : Name) → key_of new name ≡ key_of old name
 words_stay old new e f name = λ i. of_name_kind (e name.text i) (text_key (f i) name.text) name.kind
 
-pub integers_stay : (old new : ClauseNames) → ((text : Bytes) → text_key new.integers text ≡ text_key old.integers text) → new.words ≡ old.words
+pub integers_stay : (old new : NameKeys) → ((text : Bytes) → text_key new.integers text ≡ text_key old.integers text) → new.words ≡ old.words
     → (name : Name) → key_of new name ≡ key_of old name
 integers_stay old new e f name = λ i. of_name_kind (text_key (f i) name.text) (e name.text i) name.kind

@@ -10,9 +10,7 @@ use Rattle.si_term.specs.Meaning.{name_of}
 use Rattle.si_term.specs.declared.clause.Clause.{Clause}
 use Rattle.si_keyed.specs.Keyed.{HasKey, IsTakenOut}
 use Rattle.si_index.specs.Kept.{clauses_of}
-use Rattle.si_index.specs.Register.{AreNamed}
-use Rattle.si_index.specs.Names.{key_of, ChangesName}
-use Rattle.si_index.specs.declared.names.ClauseNames.{ClauseNames}
+use Rattle.si_index.specs.Names.{AreNamed, ChangesName}
 use Rattle.si_index.proofs.NameLaws.{name_either}
 use Rattle.si_keyed.proofs.KeyLaws.{item_of, key_taken, pushed_item, pushed_key, key_among}
 
@@ -27,33 +25,33 @@ taken_among [] n h = absurd h
 taken_among (x ∷ items) n (inl e) = (x, inl refl, e)
 taken_among (x ∷ items) n (inr h) = let found = taken_among items n h in (found.0, inr found.1, found.2)
 
-module _ (items : List (ℕ × Clause)) (names : ClauseNames) (are : AreNamed items names) where
-  pub leads_taken : (n : defs.Name) (key : ℕ) → key_of names n ≡ Some key → IsTaken (clauses_of items) n
+module _ (items : List (ℕ × Clause)) (names : defs.Name → Option ℕ) (are : AreNamed items names) where
+  pub leads_taken : (n : defs.Name) (key : ℕ) → names n ≡ Some key → IsTaken (clauses_of items) n
   leads_taken n key h =
       let found = item_of items key (are.there n key h) in
       subst (IsTaken (clauses_of items)) (are.named n key h found.0 found.1) (among_taken items key found.0 found.1)
 
-  pub unknown_free : (n : defs.Name) → key_of names n ≡ None → IsTaken (clauses_of items) n → ⊥
+  pub unknown_free : (n : defs.Name) → names n ≡ None → IsTaken (clauses_of items) n → ⊥
   unknown_free n h taken =
       let found = taken_among items n taken in
-      none-some _ (sym h ∙ ap (key_of names) (sym found.2) ∙ are.listed found.0.0 found.0.1 found.1)
+      none-some _ (sym h ∙ ap names (sym found.2) ∙ are.listed found.0.0 found.0.1 found.1)
 
 -- ---- a clause more
-module _ (items : List (ℕ × Clause)) (key : ℕ) (c : Clause) (old new : ClauseNames) (are : AreNamed items old) (fresh : HasKey items key → ⊥)
-    (free : key_of old (name_of c.name) ≡ None) (change : ChangesName (name_of c.name) (Some key) (key_of old) (key_of new)) where
-  own_key : (n : defs.Name) (k : ℕ) → key_of new n ≡ Some k → n ≡ name_of c.name → key ≡ k
-  own_key n k h e = same_Some _ _ (sym change.here ∙ ap (key_of new) (sym e) ∙ h)
+module _ (items : List (ℕ × Clause)) (key : ℕ) (c : Clause) (old new : defs.Name → Option ℕ) (are : AreNamed items old) (fresh : HasKey items key → ⊥)
+    (free : old (name_of c.name) ≡ None) (change : ChangesName (name_of c.name) (Some key) old new) where
+  own_key : (n : defs.Name) (k : ℕ) → new n ≡ Some k → n ≡ name_of c.name → key ≡ k
+  own_key n k h e = same_Some _ _ (sym change.here ∙ ap new (sym e) ∙ h)
 
-  other_key : (n : defs.Name) (k : ℕ) → key_of new n ≡ Some k → (n ≡ name_of c.name → ⊥) → key_of old n ≡ Some k
+  other_key : (n : defs.Name) (k : ℕ) → new n ≡ Some k → (n ≡ name_of c.name → ⊥) → old n ≡ Some k
   other_key n k h f = sym (change.others n f) ∙ h
 
-  more_there : (n : defs.Name) (k : ℕ) → key_of new n ≡ Some k → (n ≡ name_of c.name) ⊎ (n ≡ name_of c.name → ⊥) → HasKey (items ++ (key, c) ∷ []) k
+  more_there : (n : defs.Name) (k : ℕ) → new n ≡ Some k → (n ≡ name_of c.name) ⊎ (n ≡ name_of c.name → ⊥) → HasKey (items ++ (key, c) ∷ []) k
   more_there n k h (inl e) = subst (HasKey (items ++ (key, c) ∷ [])) (own_key n k h e) (pushed_key items key c)
   more_there n k h (inr f) =
       let found = item_of items k (are.there n k (other_key n k h f)) in
       key_among (items ++ (key, c) ∷ []) (k, found.0) (among_front items ((key, c) ∷ []) (k, found.0) found.1)
 
-  more_named : (n : defs.Name) (k : ℕ) → key_of new n ≡ Some k → (d : Clause) → (n ≡ name_of c.name) ⊎ (n ≡ name_of c.name → ⊥)
+  more_named : (n : defs.Name) (k : ℕ) → new n ≡ Some k → (d : Clause) → (n ≡ name_of c.name) ⊎ (n ≡ name_of c.name → ⊥)
       → IsAmong items (k, d) ⊎ IsAmong {V = ℕ × Clause} ((key, c) ∷ []) (k, d) → name_of d.name ≡ n
   more_named n k h d (inl e) (inl among) = absurd (fresh (subst (HasKey items) (sym (own_key n k h e)) (key_among items (k, d) among)))
   more_named n k h d (inl e) (inr (inl is)) = ap (λ (p : ℕ × Clause). name_of p.1.name) (sym is) ∙ sym e
@@ -62,12 +60,12 @@ module _ (items : List (ℕ × Clause)) (key : ℕ) (c : Clause) (old new : Clau
       absurd (fresh (subst (HasKey items) (ap (λ (p : ℕ × Clause). p.0) (sym is)) (are.there n k (other_key n k h f))))
   more_named n k h d either (inr (inr among)) = absurd among
 
-  more_listed : (k : ℕ) (d : Clause) → IsAmong items (k, d) ⊎ IsAmong {V = ℕ × Clause} ((key, c) ∷ []) (k, d) → key_of new (name_of d.name) ≡ Some k
+  more_listed : (k : ℕ) (d : Clause) → IsAmong items (k, d) ⊎ IsAmong {V = ℕ × Clause} ((key, c) ∷ []) (k, d) → new (name_of d.name) ≡ Some k
   more_listed k d (inl among) =
       let known = are.listed k d among in
-      change.others (name_of d.name) (λ e. none-some _ (sym free ∙ ap (key_of old) (sym e) ∙ known)) ∙ known
+      change.others (name_of d.name) (λ e. none-some _ (sym free ∙ ap old (sym e) ∙ known)) ∙ known
   more_listed k d (inr (inl is)) =
-      ap (λ (p : ℕ × Clause). key_of new (name_of p.1.name)) (sym is) ∙ change.here ∙ ap (λ (p : ℕ × Clause). Some p.0) is
+      ap (λ (p : ℕ × Clause). new (name_of p.1.name)) (sym is) ∙ change.here ∙ ap (λ (p : ℕ × Clause). Some p.0) is
   more_listed k d (inr (inr among)) = absurd among
 
   pub named_more : AreNamed (items ++ (key, c) ∷ []) new
@@ -78,10 +76,10 @@ module _ (items : List (ℕ × Clause)) (key : ℕ) (c : Clause) (old new : Clau
   }
 
 -- ---- a clause less
-module _ (before : List (ℕ × Clause)) (key : ℕ) (c : Clause) (after : List (ℕ × Clause)) (old new : ClauseNames) (are : AreNamed (before ++ (key, c) ∷ after) old)
-    (free : IsTaken (clauses_of (before ++ after)) (name_of c.name) → ⊥) (change : ChangesName (name_of c.name) None (key_of old) (key_of new)) where
-  still : (n : defs.Name) (k : ℕ) → key_of new n ≡ Some k → (n ≡ name_of c.name) ⊎ (n ≡ name_of c.name → ⊥) → (key_of old n ≡ Some k) × (n ≡ name_of c.name → ⊥)
-  still n k h (inl e) = absurd (none-some _ (sym change.here ∙ ap (key_of new) (sym e) ∙ h))
+module _ (before : List (ℕ × Clause)) (key : ℕ) (c : Clause) (after : List (ℕ × Clause)) (old new : defs.Name → Option ℕ) (are : AreNamed (before ++ (key, c) ∷ after) old)
+    (free : IsTaken (clauses_of (before ++ after)) (name_of c.name) → ⊥) (change : ChangesName (name_of c.name) None old new) where
+  still : (n : defs.Name) (k : ℕ) → new n ≡ Some k → (n ≡ name_of c.name) ⊎ (n ≡ name_of c.name → ⊥) → (old n ≡ Some k) × (n ≡ name_of c.name → ⊥)
+  still n k h (inl e) = absurd (none-some _ (sym change.here ∙ ap new (sym e) ∙ h))
   still n k h (inr f) = (sym (change.others n f) ∙ h, f)
 
   around : (k : ℕ) (d : Clause) → IsAmong (before ++ after) (k, d) → IsAmong (before ++ (key, c) ∷ after) (k, d)
@@ -90,7 +88,7 @@ module _ (before : List (ℕ × Clause)) (key : ℕ) (c : Clause) (after : List 
     by (inl among) = among_front before ((key, c) ∷ after) (k, d) among
     by (inr among) = among_back before ((key, c) ∷ after) (k, d) (inr among)
 
-  less_there : (n : defs.Name) (k : ℕ) → (key_of old n ≡ Some k) × (n ≡ name_of c.name → ⊥) → HasKey (before ++ after) k
+  less_there : (n : defs.Name) (k : ℕ) → (old n ≡ Some k) × (n ≡ name_of c.name → ⊥) → HasKey (before ++ after) k
   less_there n k h =
       let found = item_of (before ++ (key, c) ∷ after) k (are.there n k h.0) in
       by found.0 (are.named n k h.0 found.0 found.1) (among_parts before ((key, c) ∷ after) (k, found.0) found.1) where
@@ -99,7 +97,7 @@ module _ (before : List (ℕ × Clause)) (key : ℕ) (c : Clause) (after : List 
         by d e (inr (inl is)) = absurd (h.1 (sym e ∙ ap (λ (p : ℕ × Clause). name_of p.1.name) (sym is)))
         by d e (inr (inr among)) = key_among (before ++ after) (k, d) (among_back before after (k, d) among)
 
-  less_listed : (k : ℕ) (d : Clause) → IsAmong (before ++ after) (k, d) → key_of new (name_of d.name) ≡ Some k
+  less_listed : (k : ℕ) (d : Clause) → IsAmong (before ++ after) (k, d) → new (name_of d.name) ≡ Some k
   less_listed k d among =
       change.others (name_of d.name) (λ e. free (subst (IsTaken (clauses_of (before ++ after))) e (among_taken (before ++ after) k d among)))
       ∙ are.listed k d (around k d among)
@@ -112,7 +110,7 @@ module _ (before : List (ℕ × Clause)) (key : ℕ) (c : Clause) (after : List 
   }
 
 -- ---- as many as before
-pub named_stays : (items : List (ℕ × Clause)) (old new : ClauseNames) → AreNamed items old → ((n : defs.Name) → key_of new n ≡ key_of old n) → AreNamed items new
+pub named_stays : (items : List (ℕ × Clause)) (old new : defs.Name → Option ℕ) → AreNamed items old → ((n : defs.Name) → new n ≡ old n) → AreNamed items new
 named_stays items old new are same = record {
   there = λ n k h. are.there n k (sym (same n) ∙ h);
   named = λ n k h. are.named n k (sym (same n) ∙ h);

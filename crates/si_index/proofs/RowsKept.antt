@@ -82,11 +82,11 @@ module _ (items : List (ℕ × term.Clause)) (rows : List (ℕ × List ℕ)) (re
   entered_rows c between enters =
       still_rows register.signature between.signature items rows have enters.numbers (λ s. omega (arith, is.signed s)) (λ s. omega (arith, enters.uses s, is.signed s))
 
-  pub stays_rows : (new : Register) → Stays register new → HaveRows (numbering new.signature) items rows
+  pub stays_rows : (new : Register) → Stays items register new → HaveRows (numbering new.signature) items rows
   stays_rows new same = still_rows register.signature new.signature items rows have same.numbers (λ s. omega (arith, is.signed s)) (λ s. omega (arith, same.uses s, is.signed s))
 
   pub left_rows : (key : ℕ) (c : term.Clause) (rest : List (ℕ × term.Clause)) (row : List ℕ) (after : List (ℕ × List ℕ)) (new : Register) → IsTakenOut items key c rest → IsTakenOut rows key row after
-      → IsRegisterOf rest new → Leaves (clause_of c) register new → HaveRows (numbering new.signature) rest after
+      → IsRegisterOf rest new → Leaves (clause_of c) key register new → HaveRows (numbering new.signature) rest after
   left_rows key c rest row after new out out_rows is_new leaves =
       still_rows register.signature new.signature rest after (rows_less (numbering register.signature) items rest rows after key c row have out out_rows) leaves.counts.numbers
       (λ s. omega (arith, leaves.counts.uses s, is_new.signed s)) (λ s. omega (arith, is_new.signed s))

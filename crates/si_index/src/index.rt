@@ -16,7 +16,7 @@ ghost use Rattle.si_index.specs.Kept.{AreKeyed, IsEmpty, KeysStay, NumbersExactl
 ghost use Rattle.si_index.specs.Engines.{TreesAnswer};
 ghost use Rattle.si_index.specs.Register.{IsPut, HasPut};
 ghost use Rattle.si_index.specs.Stored.{AreHeld, HaveRows, MayKeep};
-ghost use Rattle.si_index.specs.Names.{key_of};
+ghost use Rattle.si_index.specs.Names.{key_in};
 ghost use Rattle.si_index.specs.Slots.{HasSlots, HaveSlotRows};
 
 use crate::names::ClauseNames;
@@ -200,6 +200,7 @@ fn put(
     clause: Clause,
     row: Row,
 ) -> Result<usize, Clause>
+    requires { key_in clauses.old.items names.old (name_of clause.name) ≡ None }
     ensures put { IfOk result (λ key. IsPut key clause clauses.old.items clauses.new.items
         names.old names.new) }
     ensures row { IfOk result (λ key. clauses.new.marks ≡ clauses.old.marks ++ (key, row) ∷ []) }
@@ -207,8 +208,8 @@ fn put(
     ensures handed_back { IfErr result (λ back. back ≡ clause) }
     ensures err { OnErr result (clauses.new.items ≡ clauses.old.items) }
     ensures same_rows { OnErr result (clauses.new.marks ≡ clauses.old.marks) }
-    ensures same_names { OnErr result ((name : defs.Name) → key_of names.new name
-        ≡ key_of names.old name) }
+    ensures same_names { OnErr result ((name : defs.Name)
+        → key_in clauses.old.items names.new name ≡ key_in clauses.old.items names.old name) }
 {
     let key = clauses.push(clause, row)?;
     let kept = clauses.get(key).unwrap();
@@ -234,8 +235,9 @@ fn keep(
         register.old.names register.new.names) }
     ensures handed_back { IfErr result (λ back. back ≡ clause) }
     ensures err { OnErr result (clauses.new.items ≡ clauses.old.items) }
-    ensures same_names { OnErr result ((name : defs.Name) → key_of register.new.names name
-        ≡ key_of register.old.names name) }
+    ensures same_names { OnErr result ((name : defs.Name)
+        → key_in clauses.old.items register.new.names name
+        ≡ key_in clauses.old.items register.old.names name) }
     ensures signature { register.new.signature ≡ register.old.signature }
     ensures entries { register.new.entries ≡ register.old.entries }
     ensures held { AreHeld clauses.new.items register.new trees.new }
@@ -252,7 +254,7 @@ fn keep(
     match trees.add_clause(alloc, &register.signature, key, kept) {
         Ok(()) => Ok(()),
         Err(_) => {
-            register.names.remove(&kept.name);
+            register.names.remove(&kept.name, key);
             Err(clauses.remove(key))
         }
     }
@@ -280,7 +282,7 @@ impl ClauseStore for Index {
         ensures numbers { NumbersStay self.old self.new }
         ensures keys { KeysStay self.old self.new }
     {
-        let entries = match self.register.enter(&clause, self.limit) {
+        let entries = match self.register.enter(&self.clauses, &clause, self.limit) {
             Ok(entries) => entries,
             Err(why) => return Err(Rejected { clause, why }),
         };
@@ -316,10 +318,10 @@ impl ClauseStore for Index {
         ensures keys { IfSome result (λ n. KeysStay self.old self.new) }
         ensures same { IfNone result (self.new ≡ self.old) }
     {
-        let key = self.register.names.get(name)?;
+        let key = self.register.names.get(&self.clauses, name)?;
         let clause = self.clauses.remove(key);
         self.trees.remove_clause(self.alloc, key);
-        Some(self.register.leave(&clause))
+        Some(self.register.leave(&clause, key))
     }
 
     /// Beside what every store promises, a symbol keeps its number while it occurs, and a clause
@@ -339,6 +341,6 @@ impl ClauseStore for Index {
         let key = self.clauses.last_key()?;
         let clause = self.clauses.remove(key);
         self.trees.remove_clause(self.alloc, key);
-        Some(self.register.leave(&clause))
+        Some(self.register.leave(&clause, key))
     }
 }

@@ -8,6 +8,7 @@ mod found;
 mod gather;
 mod holding;
 mod index;
+mod name_keys;
 mod names;
 mod register;
 mod screen;

@@ -1,4 +1,4 @@
-// Maps from names to keys.
+// Keys by names.
 ghost use Rattle.std.specs.Prelude.{◌≡◌, None, Some, OnOk, OnErr};
 ghost use Rattle.si_defs.specs.Clauses as defs;
 ghost use Rattle.si_term.specs.Meaning.{name_of};
@@ -12,17 +12,17 @@ use std::alloc::{AllocError, Global};
 /// A finite map from names of clauses to keys: one from texts for each kind, so that a look-up
 /// takes no memory.
 #[derive(Drop)]
-pub struct ClauseNames {
+pub struct NameKeys {
     words: TextKeys,
     integers: TextKeys,
 }
 
-impl ClauseNames {
+impl NameKeys {
     /// The empty map.
-    pub fn new(alloc: Global) -> ClauseNames
+    pub fn new(alloc: Global) -> NameKeys
         ensures { (name : defs.Name) → key_of result name ≡ None }
     {
-        ClauseNames {
+        NameKeys {
             words: TextKeys::new(alloc),
             integers: TextKeys::new(alloc),
         }

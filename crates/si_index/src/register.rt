@@ -9,10 +9,12 @@ ghost use Rattle.si_state.specs.Signatures as signatures;
 ghost use Rattle.si_state.specs.Signatures.{IsSignature, uses_of, known_symbols};
 ghost use Rattle.si_term.specs.Meaning.{clause_of};
 ghost use Rattle.si_sign.specs.declared.uses.TheConstants.{MOST_USES};
-ghost use Rattle.si_index.specs.Names.{key_of};
+ghost use Rattle.si_index.specs.Names.{key_in, AreNamed};
 ghost use Rattle.si_index.specs.Register.{Admits, Enters, Uncounts, Leaves, Stays, Bars};
 
 use crate::names::ClauseNames;
+use si_keyed::KeyedList;
+use si_lanes::Row;
 use si_sign::{AddFault, Signature, TakeFault};
 use si_term::{Clause, entry_count};
 use std::alloc::Global;
@@ -28,7 +30,7 @@ pub struct Register {
 impl Register {
     /// The register of no clause.
     pub fn new(alloc: Global) -> Register
-        ensures names { (name : defs.Name) → key_of result.names name ≡ None }
+        ensures names { (name : defs.Name) → key_in [] result.names name ≡ None }
         ensures signature { result.signature ≡ [] }
         ensures entries { result.entries ≡ 0 }
     {
@@ -39,24 +41,31 @@ impl Register {
         }
     }
 
-    /// Counts the symbols and the entries of a clause, and answers the number of its entries. The
-    /// names stay as they are. At an error the register says the same as before.
+    /// Counts the symbols and the entries of a clause beside these, and answers the number of its
+    /// entries. The names stay as they are. At an error the register says the same as before.
     ///
     /// `Taken`: its name is there. `Clash`: else, a symbol of it has another shape than one that is
     /// there or stands earlier in it. `Full`: else, there would be more entries than the limit.
-    pub fn enter(&mut self, clause: &Clause, limit: u64) -> Result<u32, AddFault>
+    pub fn enter(
+        &mut self,
+        clauses: &KeyedList<Clause, Row>,
+        clause: &Clause,
+        limit: u64,
+    ) -> Result<u32, AddFault>
+        requires named { AreNamed clauses.now.items (key_in clauses.now.items self.old.names) }
         requires signature { IsSignature self.old.signature }
         requires room { signatures.total self.old.signature
             + length (clause_symbols (clause_of clause.now)) ≤ MOST_USES }
         requires counted { self.old.entries ≤ MOST_OCCURRENCES }
         requires few { length (entries (clause_of clause.now)) ≤ MOST_OCCURRENCES }
-        ensures admits { OnOk result (Admits limit self.old (clause_of clause.now)) }
+        ensures admits { OnOk result (Admits limit clauses.now.items self.old
+            (clause_of clause.now)) }
         ensures enters { OnOk result (Enters (clause_of clause.now) self.old self.new) }
         ensures number { IfOk result (λ n. n ≡ length (entries (clause_of clause.now))) }
-        ensures why { IfErr result (Bars limit self.old (clause_of clause.now)) }
-        ensures err { OnErr result (Stays self.old self.new) }
+        ensures why { IfErr result (Bars limit clauses.now.items self.old (clause_of clause.now)) }
+        ensures err { OnErr result (Stays clauses.now.items self.old self.new) }
     {
-        if self.names.get(&clause.name).is_some() {
+        if self.names.get(clauses, &clause.name).is_some() {
             return Err(AddFault::Taken);
         }
         match self.signature.take(clause) {
@@ -91,16 +100,16 @@ impl Register {
         entries
     }
 
-    /// Strikes a clause out, and answers the number of its entries. It takes no memory.
-    pub fn leave(&mut self, gone: &Clause) -> u32
+    /// Strikes a clause with this key out, and answers the number of its entries. It takes no memory.
+    pub fn leave(&mut self, gone: &Clause, key: usize) -> u32
         requires used { (s : Symbol) → times s (clause_symbols (clause_of gone.now))
             ≤ uses_of self.old.signature s }
         requires counted { length (entries (clause_of gone.now)) ≤ self.old.entries }
         requires few { length (entries (clause_of gone.now)) ≤ MOST_OCCURRENCES }
-        ensures leaves { Leaves (clause_of gone.now) self.old self.new }
+        ensures leaves { Leaves (clause_of gone.now) key self.old self.new }
         ensures number { result ≡ length (entries (clause_of gone.now)) }
     {
-        self.names.remove(&gone.name);
+        self.names.remove(&gone.name, key);
         self.uncount(gone)
     }
 }

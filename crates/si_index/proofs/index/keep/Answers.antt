@@ -1,5 +1,5 @@
-use Rattle.std.proofs.Common.{map, sym, subst, subst₂}
-use Rattle.si_term.specs.Meaning.{clause_of, literal_of}
+use Rattle.std.proofs.Common.{map, Some, sym, subst, subst₂}
+use Rattle.si_term.specs.Meaning.{clause_of, literal_of, name_of}
 use Rattle.si_flat.specs.Numbered.{number_in}
 use Rattle.si_screen.specs.ClauseRows.{IsRowOf, with_extra}
 use Rattle.si_screen.proofs.RowLaws.{no_extra}
@@ -10,10 +10,11 @@ use Rattle.si_held.proofs.Holding.{same_held}
 use Rattle.si_keyed.specs.Keyed.{HasKey, IsTakenOut}
 use Rattle.si_keyed.proofs.KeyLaws.{pushed_key, taken_back}
 use Rattle.si_keyed.proofs.Results.{some_unless}
-use Rattle.si_index.specs.Names.{key_of}
+use Rattle.si_index.specs.Names.{key_in, ChangesName, LeadsAway}
 use Rattle.si_index.specs.Stored.{keyed_clauses, HaveRows}
 use Rattle.si_index.proofs.HeldClauses.{may_add, held_more}
-use Rattle.si_index.proofs.NamedLaws.{put_item, put_taken, name_gone}
+use Rattle.si_index.proofs.NamedLaws.{put_item, put_taken}
+use Rattle.si_index.proofs.FoundNames.{name_back}
 use Rattle.si_index.proofs.RowsKept.{rows_more}
 use Rattle.si_index.proofs.index.keep.Goals as goal
 
@@ -22,6 +23,9 @@ unwrap-kept-requires c =
     let key = c.in_ok-key.key in
     some_unless c.get.result c.get.ensures.none
     (subst (λ l. HasKey l key) (sym c.in_ok-key.ensures.put.pushed) (pushed_key c.args.clauses.now.items key c.args.clause))
+
+pub put-requires : goal.put-requires
+put-requires c = c.requires.may.free
 
 pub add_clause-requires : goal.add_clause-requires
 add_clause-requires c =
@@ -57,9 +61,12 @@ returns-in-Err-clause-err c =
 pub returns-in-Err-clause-same_names : goal.returns-in-Err-clause-same_names
 returns-in-Err-clause-same_names c =
     let put = c.in_ok-key.ensures.put in
-    name_gone c.args.clause c.unwrap-kept.result.now c.in_ok-key.key (key_of c.args.register.now.names) (key_of c.put.new.names) (key_of c.remove.new.self)
-    (put_item c.args.clauses.now.items c.put.new.clauses.items c.in_ok-key.key c.args.clause c.get.result c.unwrap-kept.result put.fresh put.pushed c.unwrap-kept.ensures c.get.ensures.some)
-    c.requires.may.free put.name c.remove.ensures.gone
+    let items = c.args.clauses.now.items in
+    let key = c.in_ok-key.key in
+    let same = put_item items c.put.new.clauses.items key c.args.clause c.get.result c.unwrap-kept.result put.fresh put.pushed c.unwrap-kept.ensures c.get.ensures.some in
+    name_back items key c.args.clause put.fresh c.args.register.now.names c.put.new.names c.remove.new.self c.requires.may.free
+    (subst (λ l. ChangesName (name_of c.args.clause.name) (Some key) (key_in items c.args.register.now.names) (key_in l c.put.new.names)) put.pushed put.name)
+    (subst (λ (d : Clause). LeadsAway (name_of d.name) key c.put.new.names c.remove.new.self) same c.remove.ensures)
 
 pub returns-in-Err-clause-held : goal.returns-in-Err-clause-held
 returns-in-Err-clause-held c =

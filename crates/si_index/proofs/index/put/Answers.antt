@@ -2,9 +2,10 @@ use Rattle.std.proofs.Common.{Some, sym, subst}
 use Rattle.si_term.specs.Meaning.{name_of}
 use Rattle.si_term.specs.declared.clause.Clause.{Clause}
 use Rattle.si_keyed.specs.Keyed.{HasKey, IsTakenOut}
-use Rattle.si_index.specs.Names.{key_of, ChangesName}
+use Rattle.si_index.specs.Names.{key_in, ChangesName, LeadsTo}
 use Rattle.si_keyed.proofs.KeyLaws.{pushed_key, taken_back}
 use Rattle.si_keyed.proofs.Results.{some_unless}
+use Rattle.si_index.proofs.FoundNames.{name_comes, stay_found}
 use Rattle.si_index.proofs.NamedLaws.{put_item, put_taken}
 use Rattle.si_index.proofs.index.put.Goals as goal
 
@@ -25,14 +26,20 @@ returns-in-Ok-clause-put c =
       fresh = fresh;
       pushed = pushed;
       name =
-          subst (λ (d : Clause). ChangesName (name_of d.name) (Some key) (key_of c.args.names.now) (key_of c.insert.new.self))
-          (put_item c.args.clauses.now.items c.push.new.self.items key c.args.clause c.get.result c.unwrap-kept.result fresh pushed c.unwrap-kept.ensures c.get.ensures.some) c.in-Ok.ensures.ok;
+          subst (λ l. ChangesName (name_of c.args.clause.name) (Some key) (key_in c.args.clauses.now.items c.args.names.now) (key_in l c.insert.new.self)) (sym pushed)
+          (name_comes c.args.clauses.now.items key c.args.clause fresh c.args.names.now c.insert.new.self
+          (subst (λ (d : Clause). LeadsTo (name_of d.name) key c.args.names.now c.insert.new.self)
+          (put_item c.args.clauses.now.items c.push.new.self.items key c.args.clause c.get.result c.unwrap-kept.result fresh pushed c.unwrap-kept.ensures c.get.ensures.some) c.in-Ok.ensures.ok)
+          c.requires);
     }
 
 pub returns-in-Err-clause-handed_back : goal.returns-in-Err-clause-handed_back
 returns-in-Err-clause-handed_back c =
     put_taken c.args.clauses.now.items c.push.new.self.items c.in_ok-key.key c.args.clause c.remove.result c.remove.new.self.items c.in_ok-key.ensures.fresh c.in_ok-key.ensures.pushed
     c.remove.ensures.taken
+
+pub returns-in-Err-clause-same_names : goal.returns-in-Err-clause-same_names
+returns-in-Err-clause-same_names c = stay_found c.args.clauses.now.items c.args.names.now c.insert.new.self c.in-Err.ensures.err
 
 pub returns-in-Err-clause-same_rows : goal.returns-in-Err-clause-same_rows
 returns-in-Err-clause-same_rows c =

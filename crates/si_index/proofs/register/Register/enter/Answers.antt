@@ -10,7 +10,7 @@ returns-then-needed-limit-clause-err c =
     let old = c.args.self.now in
     let clause = clause_of c.args.clause.now in
     let taken = c.take.new.self in
-    entered_back old (record { names = old.names; signature = taken; entries = old.entries + length (entries clause) })
+    entered_back c.args.clauses.now.items old (record { names = old.names; signature = taken; entries = old.entries + length (entries clause) })
     (record { names = old.names; signature = c.give_back.new.self; entries = old.entries }) clause c.requires.signature
     (record {
       names = refl;

@@ -1,0 +1,83 @@
+// Keys of the clauses that are kept, by their names.
+ghost use Rattle.std.specs.Prelude.{◌≡◌, List, ℕ, None, OnOk, OnErr};
+ghost use Rattle.si_defs.specs.Clauses as defs;
+ghost use Rattle.si_term.specs.Meaning.{name_of};
+ghost use Rattle.si_sign.specs.Hashed.{hashed_key};
+ghost use Rattle.si_index.specs.Names.{key_in, key_of, same_name, AreNamed, LeadsAway, LeadsTo, StayLed};
+
+use crate::name_keys::NameKeys;
+use si_defs::NameKind;
+use si_keyed::KeyedList;
+use si_lanes::Row;
+use si_sign::HashedKeys;
+use si_term::{Clause, Name};
+use std::alloc::{AllocError, Global};
+
+/// A map from names of clauses to their keys in a list. Of the names whose texts have one hash only
+/// the first is found by the hash, and is no copy: it stands in its clause alone.
+#[derive(Drop)]
+pub struct ClauseNames {
+    hashed: HashedKeys,
+    // Of the names whose hash led to another clause already.
+    others: NameKeys,
+}
+
+impl ClauseNames {
+    /// The empty map.
+    pub fn new(alloc: Global) -> ClauseNames
+        ensures hashed { (text : List ℕ) → hashed_key result.hashed text ≡ None }
+        ensures others { (name : defs.Name) → key_of result.others name ≡ None }
+    {
+        ClauseNames {
+            hashed: HashedKeys::new(alloc),
+            others: NameKeys::new(alloc),
+        }
+    }
+
+    /// The key of the name, of the clauses of this list.
+    pub fn get(&self, clauses: &KeyedList<Clause, Row>, name: &Name) -> Option<usize>
+        requires { AreNamed clauses.now.items (key_in clauses.now.items self.now) }
+        ensures { result ≡ key_in clauses.now.items self.now (name_of name.now) }
+    {
+        let Some(key) = self.hashed.get(name.text.as_bytes()) else {
+            return self.others.get(name);
+        };
+        let Some(kept) = clauses.get(key) else {
+            return self.others.get(name);
+        };
+        if is_same(&kept.name, name) {
+            return Some(key);
+        }
+        self.others.get(name)
+    }
+
+    /// Has a name that has no key lead to this one. At an error the map is as before.
+    pub fn insert(&mut self, alloc: Global, name: &Name, key: usize) -> Result<(), AllocError>
+        ensures ok { OnOk result (LeadsTo (name_of name.now) key self.old self.new) }
+        ensures err { OnErr result (StayLed self.old self.new) }
+    {
+        if self.hashed.insert(name.text.as_bytes(), key)? {
+            return Ok(());
+        }
+        self.others.insert(alloc, name, key)
+    }
+
+    /// Has a name lead to its key no more. It takes no memory.
+    pub fn remove(&mut self, name: &Name, key: usize)
+        ensures { LeadsAway (name_of name.now) key self.old self.new }
+    {
+        self.hashed.remove(name.text.as_bytes(), key);
+        self.others.remove(name);
+    }
+}
+
+/// Whether two names are equal.
+fn is_same(one: &Name, other: &Name) -> bool
+    ensures { result ≡ same_name (name_of one.now) (name_of other.now) }
+{
+    match (one.kind, other.kind) {
+        (NameKind::Word, NameKind::Word) => one.text.as_bytes() == other.text.as_bytes(),
+        (NameKind::Int, NameKind::Int) => one.text.as_bytes() == other.text.as_bytes(),
+        _ => false,
+    }
+}

@@ -29,15 +29,51 @@ use std::alloc::{AllocError, Global};
 /// relation to the query. It answers how many nodes are open there.
 ///
 /// On the trail the bindings of the nodes above are solved, with indicator 0 for the query. It is
-/// as before in the end. At an error the postings are as before too. The scratch is lent; it has no
-/// less room in the end.
+/// as before in the end. At an error the postings are as before too.
+pub fn descend<'a>(
+    alloc: Global,
+    tree: &'a Tree,
+    node: NodeId,
+    relation: Relation,
+    query: &'a Flat,
+    slots: &Slots,
+    trail: &mut Trail<&'a [Cell]>,
+    out: &mut Vec<Posting>,
+) -> Result<u64, AllocError>
+    requires node { IsNode tree.now node }
+    requires query { IsQuery query.now }
+    requires freezes { Freezes relation slots.now }
+    requires room { HasRoomFor slots.now tree.now query.now }
+    requires solving { AllowsSolving slots.now trail.old.pairs trail.old.slots }
+    requires above { ShowsAbove slots.now trail.old.pairs tree.now node query.now }
+    ensures finds { IfOk result (Finds tree.now node relation query.now
+        out.old.items out.new.items) }
+    ensures err { OnErr result (out.new.items ≡ out.old.items) }
+    ensures pairs { trail.new.pairs ≡ trail.old.pairs }
+    ensures slots { trail.new.slots ≡ trail.old.slots }
+{
+    let mut scratch = Scratch::new(alloc);
+    descend_with(
+        alloc,
+        tree,
+        node,
+        relation,
+        query,
+        slots,
+        &mut scratch,
+        trail,
+        out,
+    )
+}
+
+/// The same in memory that is lent, which has no less room in the end.
 ///
 /// # Errors
 ///
 /// `AllocError` where there is no memory. But where no variants are sought it never comes if the
 /// scratch has room enough to solve all bindings of the tree over those of the trail, and `out` for
 /// all that can be found. Variants take a table of the query's variables at each call.
-pub fn descend<'a>(
+pub fn descend_with<'a>(
     alloc: Global,
     tree: &'a Tree,
     node: NodeId,
@@ -97,18 +133,7 @@ pub fn retrieve(
     let slots = slots_for(tree, relation, cells);
     let mut trail = Trail::with_slots(alloc, slots.count())?;
     trail.bind(slots.query as usize + slots.entry as usize, cells);
-    let mut scratch = Scratch::new(alloc);
-    descend(
-        alloc,
-        tree,
-        root,
-        relation,
-        query,
-        &slots,
-        &mut scratch,
-        &mut trail,
-        out,
-    )
+    descend(alloc, tree, root, relation, query, &slots, &mut trail, out)
 }
 
 /// Counts the postings that [`retrieve`] would append, and the open nodes. It copies no posting.

@@ -17,4 +17,4 @@ mod taken;
 mod variants;
 
 pub use counting::Counted;
-pub use descent::{count, descend, retrieve};
+pub use descent::{count, descend, descend_with, retrieve};

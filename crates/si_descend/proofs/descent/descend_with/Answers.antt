@@ -1,7 +1,7 @@
 use Rattle.std.proofs.Common.{ap}
 use Rattle.si_descend.proofs.EnoughLaws.{lacking_there}
 use Rattle.si_descend.proofs.Starting.{asked_above}
-use Rattle.si_descend.proofs.descent.descend.Goals as goal
+use Rattle.si_descend.proofs.descent.descend_with.Goals as goal
 
 pub search_below-requires-clause-above : goal.search_below-requires-clause-above
 search_below-requires-clause-above c =

@@ -99,3 +99,29 @@ def written(folder: str) -> tuple[list[str], bytes]:
     for name, text in FILES.items():
         Path(folder, name).write_text(there(text))
     return [f"{folder}/call.p"], there(SESSION).encode()
+
+
+def script(folder: str) -> tuple[list[str], bytes]:
+    """A problem that includes axioms, a query, a removal and two questions on subsumption."""
+    axioms = Path(folder, "groups.ax")
+    axioms.write_text(
+        "cnf(left_identity,axiom,( multiply(identity,X) = X )).\n"
+        "cnf(left_inverse,axiom,( multiply(inverse(X),X) = identity )).\n"
+        "cnf(associativity,axiom,\n    ( multiply(multiply(X,Y),Z) = multiply(X,multiply(Y,Z)) )).\n"
+        "cnf(right_inverse,axiom,( multiply(X,inverse(X)) = identity )).\n"
+    )
+    problem = Path(folder, "problem.p")
+    problem.write_text(
+        "% a group problem\n"
+        f"include('{axioms}',[left_inverse,associativity]).\n"
+        "cnf(goal,negated_conjecture,( multiply(a,inverse(a)) != identity )).\n"
+    )
+    lines = [
+        f"load '{problem}'",
+        "unifiable term multiply(X,inverse(X))",
+        "remove goal",
+        "stats",
+        "subsumers X=Y",
+        "subsumed X=Y",
+    ]
+    return [], ("\n".join(lines) + "\n").encode()

@@ -34,7 +34,8 @@ from_to FromFormula formula clause = (formula, clause)
 
 -- a map from the literals of a clause to those of the formula, or the other way
 abbrev pub IsMapIn : Direction → List Literal → List Literal → List ℕ → Type 0
-IsMapIn direction formula ls = IsMap (from_to direction formula ls).0 (from_to direction formula ls).1
+IsMapIn direction formula ls =
+    IsMap (from_to direction formula ls).0 (from_to direction formula ls).1
 
 -- The formula's variables are an entry's where clauses are taken to it, and else a query's.
 abbrev pub formula_owner : Direction → Owner

@@ -13,8 +13,8 @@ use si_sign::HashedKeys;
 use si_term::{Clause, Name};
 use std::alloc::{AllocError, Global};
 
-/// A map from names of clauses to their keys in a list. Of the names whose texts have one hash only
-/// the first is found by the hash, and is no copy: it stands in its clause alone.
+/// A map from names of clauses to their keys in a list. Of the names whose texts have one hash at
+/// most one is found by the hash; it has no copy here, and stands in its clause alone.
 #[derive(Drop)]
 pub struct ClauseNames {
     hashed: HashedKeys,
@@ -51,7 +51,7 @@ impl ClauseNames {
         self.others.get(name)
     }
 
-    /// Has a name that has no key lead to this one. At an error the map is as before.
+    /// Gives this key to a name that has none. At an error the map is as before.
     pub fn insert(&mut self, alloc: Global, name: &Name, key: usize) -> Result<(), AllocError>
         ensures ok { OnOk result (LeadsTo (name_of name.now) key self.old self.new) }
         ensures err { OnErr result (StayLed self.old self.new) }
@@ -62,7 +62,7 @@ impl ClauseNames {
         self.others.insert(alloc, name, key)
     }
 
-    /// Has a name lead to its key no more. It takes no memory.
+    /// Takes from a name its key. It takes no memory.
     pub fn remove(&mut self, name: &Name, key: usize)
         ensures { LeadsAway (name_of name.now) key self.old self.new }
     {

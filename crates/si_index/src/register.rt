@@ -100,7 +100,8 @@ impl Register {
         entries
     }
 
-    /// Strikes a clause with this key out, and answers the number of its entries. It takes no memory.
+    /// Strikes out the clause with this key, and answers the number of its entries. It takes no
+    /// memory.
     pub fn leave(&mut self, gone: &Clause, key: usize) -> u32
         requires used { (s : Symbol) → times s (clause_symbols (clause_of gone.now))
             ≤ uses_of self.old.signature s }

@@ -4,7 +4,6 @@ pub mod EntryLaws
 pub mod LeafLaws
 mod SolvedLaws
 mod HoldingLaws
-mod FittingLaws
 pub mod FlatLaws
 mod FoundLaws
 pub mod GatherLaws
@@ -13,7 +12,6 @@ mod RegisterLaws
 mod NameLaws
 mod NamedLaws
 mod FoundNames
-mod ScreenLaws
 mod ComparedLaws
 pub mod SlotLaws
 mod RowsKept

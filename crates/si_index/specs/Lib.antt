@@ -1,7 +1,6 @@
 pub mod Explaining
 pub mod Engines
 pub mod Finding
-pub mod Fitting
 pub mod Gathering
 pub mod Holding
 pub mod Kept

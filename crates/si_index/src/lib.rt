@@ -3,7 +3,6 @@
 
 mod engine;
 mod explain;
-mod fitting;
 mod found;
 mod gather;
 mod holding;
@@ -11,7 +10,6 @@ mod index;
 mod name_keys;
 mod names;
 mod register;
-mod screen;
 mod search;
 mod subsuming;
 mod variables;

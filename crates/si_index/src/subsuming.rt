@@ -18,11 +18,10 @@ ghost use Rattle.si_index.specs.Subsuming.{AreMappedFrom, HasMap, IsFlatFormula,
 
 use crate::holding::Holders;
 use crate::index::Index;
-use crate::screen::may_have_map;
 use si_flat::{Cell, ClauseBuffer, LitMap, Owner};
 use si_keyed::Places;
 use si_lanes::{Row, subset_rows, superset_rows};
-use si_screen::{Extra, literals_row};
+use si_screen::{Extra, literals_row, may_have_map};
 use si_sign::Signature;
 use si_subsume::least_map_of;
 use si_term::list::Items;

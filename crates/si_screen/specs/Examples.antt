@@ -1,15 +1,16 @@
--- Rows that clauses have, and rows that they don't.
+-- Rows that clauses have, and rows that they don't; terms that are like others, and terms that aren't.
 use Rattle.std.specs.Prelude.{◌≡◌, ℕ, true, false, List, [], ◌∷◌, codes}
 use Rattle.si_defs.specs.Bytes.{Bytes}
 use Rattle.si_defs.specs.Terms.{var, app, none, more}
 use Rattle.si_defs.specs.Symbols.{Symbol, Numbering}
-use Rattle.si_defs.specs.Clauses.{Literal}
+use Rattle.si_defs.specs.Clauses.{Term, Literal}
 use Rattle.si_defs.specs.Entries.{entries_from}
 use Rattle.si_defs.specs.declared.SymKind.TheVariants.{Word}
 use Rattle.si_defs.specs.declared.Side.{Side}
 use Rattle.si_defs.specs.declared.Side.TheVariants.{Predicate, Function}
 use Rattle.si_flat.specs.Numbered.{number_in}
 use Rattle.si_screen.specs.ClauseRows.{head_numbers, bit_of, IsRowOf, lacking, with_extra}
+use Rattle.si_screen.specs.Likeness.{IsLike}
 
 abbrev pub word : Bytes → Side → ℕ → Symbol
 word text side arity = record { kind = Word; text = text; side = side; arity = arity }
@@ -83,3 +84,22 @@ LackingBit = IsRowOf (number_in numbers) (negated ∷ []) (2 ∷ 0 ∷ 0 ∷ 0 �
 -- nor may a bit stand there that is no symbol's
 abbrev pub StrayBit : Type 0
 StrayBit = IsRowOf (number_in numbers) [] (1 ∷ 0 ∷ 0 ∷ 0 ∷ []) → ⊥
+
+-- f(X)
+abbrev f_of_variable : Term
+f_of_variable = app f (more (var (codes "X")) none)
+
+abbrev f_of_a : Term
+f_of_a = app f (more (app a none) none)
+
+-- where the term has a variable anything may stand
+abbrev pub LikeBelowAVariable : Type 0
+LikeBelowAVariable = IsLike f_of_variable f_of_a
+
+-- where it has a symbol no variable may
+abbrev pub UnlikeAtAVariable : Type 0
+UnlikeAtAVariable = IsLike f_of_a f_of_variable → ⊥
+
+-- nor another symbol
+abbrev pub UnlikeAtAnArgument : Type 0
+UnlikeAtAnArgument = IsLike f_of_a (app f (more (app b none) none)) → ⊥

@@ -1,3 +1,4 @@
 pub mod ClauseRows
 pub mod Examples
+pub mod Likeness
 pub mod Walks

@@ -1,5 +1,5 @@
-// Worked examples of rows.
-ghost use Rattle.si_screen.specs.Examples.{HeadsOfNegation, HeadsOfTwo, HeadsOfLacked, SameBit, NoBit, LackingBit, StrayBit};
+// Worked examples of rows, and of terms with like symbols.
+ghost use Rattle.si_screen.specs.Examples.{HeadsOfNegation, HeadsOfTwo, HeadsOfLacked, SameBit, NoBit, LackingBit, StrayBit, LikeBelowAVariable, UnlikeAtAVariable, UnlikeAtAnArgument};
 
 /// The numbers of the heads of some clauses, and rows that are theirs or aren't.
 pub fn rows_of_clauses()
@@ -10,4 +10,11 @@ pub fn rows_of_clauses()
     ensures no_bit { NoBit }
     ensures lacking_bit { LackingBit }
     ensures stray_bit { StrayBit }
+{}
+
+/// Terms that are like others, or aren't.
+pub fn likeness_of_terms()
+    ensures below_a_variable { LikeBelowAVariable }
+    ensures at_a_variable { UnlikeAtAVariable }
+    ensures at_an_argument { UnlikeAtAnArgument }
 {}

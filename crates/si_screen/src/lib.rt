@@ -1,16 +1,19 @@
-//! Rows of clauses: which symbols occur in a clause, by bits, so that most pairs of clauses are
-//! told apart before any literal of them is looked at.
+//! What tells most pairs of clauses apart, before any substitution is sought.
 //!
-//! A clause that subsumes another one has no bit that the other one lacks; `specs/ClauseRows.antt`
-//! says which bits a clause has.
+//! Rows say by bits which symbols occur in a clause. A clause that subsumes another one has no bit
+//! that the other one lacks; `specs/ClauseRows.antt` says which bits a clause has. Then signs and
+//! symbols of literals are compared (`specs/Likeness.antt`).
 #![tactic(auto)]
 
 mod examples;
 mod extra;
 mod laws;
+mod likeness;
 mod rows;
+mod targets;
 
-pub use examples::rows_of_clauses;
+pub use examples::{likeness_of_terms, rows_of_clauses};
 pub use extra::Extra;
 pub use laws::rows_follow_maps;
 pub use rows::literals_row;
+pub use targets::may_have_map;

@@ -8,7 +8,7 @@ use Rattle.si_index.proofs.subsuming.Comparison.answer.Goals as goal
 
 pub returns-then-not-may_have_map : goal.returns-then-not-may_have_map
 returns-then-not-may_have_map c =
-    no_map (map literal_of) c.args.self.now.direction c.args.self.now.formula c.args.literals c.from_to.result c.from_to.ensures (c.may_have_map.ensures c.if-not-may_have_map.true)
+    no_map (map literal_of) c.args.self.now.direction c.args.self.now.formula c.args.literals c.from_to.result c.from_to.ensures (c.may_have_map.ensures.no_map c.if-not-may_have_map.true)
 
 pub fill-requires : goal.fill-requires
 fill-requires c = subst (λ ls. AreSoundLiterals (map literal_of ls)) (sym c.as_slice.ensures) c.requires.literals

@@ -8,6 +8,7 @@ the session of this size into the current folder, as the files `before` and `who
 """
 import sys
 from pathlib import Path
+from random import Random
 from typing import Callable, NamedTuple
 
 RELATIONS = ("instances", "generalizations", "variants", "unifiable")
@@ -125,6 +126,39 @@ LINES = {
     "files that are missing": Shape(5_000, lambda n: lines(*each("load 'none#'", n))),
     "a file's name of escapes": Shape(200_000, lambda n: lines("load '" + r"\'" * n + "'")),
     "stats": Shape(10_000, lambda n: lines(*["stats"] * n, before=own_clauses(100))),
+}
+
+# Texts that share a hash
+
+def fnv(text: str, state: int = 2_166_136_261) -> int:
+    """The hash by which names and symbols are found (FNV-1a, 32 bits), from a state on."""
+    for byte in text.encode():
+        state = (state ^ byte) * 16_777_619 & 0xFFFF_FFFF
+    return state
+
+
+def one_hash(n: int) -> list[str]:
+    """n words that all have one hash: of each pair of blocks that lead to one state, either."""
+    words, state, letters = ["w"], fnv("w"), Random(1)
+    while len(words) < n:
+        met: dict[int, str] = {}
+        while True:
+            block = "".join(letters.choices(LETTERS, k=6))
+            after = fnv(block, state)
+            if met.get(after, block) != block:
+                break
+            met[after] = block
+        words = [word + either for word in words for either in (met[after], block)]
+        state = after
+    return words[:n]
+
+
+ONE_HASH = {
+    "names of one hash, added": Shape(8_000, lambda n: lines(*(add("p", word) for word in one_hash(n)))),
+    "names of one hash, removed": Shape(4_000, lambda n: lines(
+        *(f"remove {word}" for word in one_hash(n)), before=[add("p", word) for word in one_hash(n)])),
+    "symbols of one hash": Shape(4_000, lambda n: lines(
+        *(add(word, f"c{number}") for number, word in enumerate(one_hash(n))))),
 }
 
 # Loaded files
@@ -377,7 +411,7 @@ LIKE_LITERALS = {
 }
 SAMPLES = {"sample": Shape(60, lambda n: lines(f"sample 1 {n}"), most=4.6)}
 
-SHAPES = ADDED | REMOVED | LINES | LOADED | query_shapes() | HITS | TREES | SUBSUMED | TOWERS | LIKE_LITERALS | SAMPLES
+SHAPES = ADDED | REMOVED | LINES | ONE_HASH | LOADED | query_shapes() | HITS | TREES | SUBSUMED | TOWERS | LIKE_LITERALS | SAMPLES
 
 
 def main() -> None:

@@ -18,6 +18,7 @@ pub mod Entered
 pub mod Starting
 pub mod Retrieving
 pub mod Beginning
+pub mod Lent
 pub mod HeadLaws
 pub mod PlaceLaws
 pub mod AttemptLaws

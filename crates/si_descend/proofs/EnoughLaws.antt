@@ -5,7 +5,6 @@ use Rattle.std.specs.Prelude.{Vec, vec_len}
 use Rattle.std.specs.List.{AllByRecursion}
 use Rattle.si_defs.specs.Substitutions.{IsAmong}
 use Rattle.si_defs.specs.declared.Relation.{Relation}
-use Rattle.si_defs.specs.declared.Relation.TheVariants.{Variants}
 use Rattle.si_defs.proofs.ListLaws.{among_parts}
 use Rattle.si_flat.specs.declared.Cell.{Cell}
 use Rattle.si_flat.specs.Cells.{Term, cells_of}
@@ -24,7 +23,7 @@ use Rattle.si_unify.proofs.RoomLaws.{enough_on}
 use Rattle.si_descend.specs.declared.search.Search.{Search}
 use Rattle.si_descend.specs.Answers.{IsAnswerBelow}
 use Rattle.si_descend.specs.Lending.{IsEnoughForTree, HasRoomForAll, HasRoomForAnswers}
-use Rattle.si_descend.specs.Searching.{IsReady, IsOpenAt, HasFoundBelow, HasRoomBelow}
+use Rattle.si_descend.specs.Searching.{IsReady, IsOpenAt, HasFoundBelow, HasRoomBelow, LacksRoom}
 use Rattle.si_descend.proofs.ExactLists.{distinct_both}
 use Rattle.si_descend.proofs.Finding.{appends_leaf, answered, answered_apart}
 use Rattle.si_descend.proofs.Visiting.{query_numbered, AreSiblings}
@@ -109,9 +108,8 @@ module _ (search : Search) (ready : IsReady search) (key : ℕ) (node : Node Ter
         )
 
 -- ---- over the tree itself
-pub lacking_there : {A : Type 0} (search : Search) (tree : Tree Term) (relation : Relation) (query : List Cell) (slots : Slots) (top : ℕ) (pairs : Pairs) (room : SolverRoom) (out : Vec Posting A) → search.tree.now ≡ tree → search.relation ≡ relation → search.query.now ≡ query → search.slots ≡ slots → ((n : ℕ) → IsEnoughForTree n search.tree.now search.slots pairs room → HasRoomForAnswers search.tree.now top search.relation search.query.now out → search.relation ≡ Variants) → (n : ℕ) → IsEnoughForTree n tree slots pairs room → HasRoomForAnswers tree top relation query out → relation ≡ Variants
+pub lacking_there : {A : Type 0} (search : Search) (tree : Tree Term) (relation : Relation) (query : List Cell) (slots : Slots) (top : ℕ) (pairs : Pairs) (room : SolverRoom) (out : Vec Posting A) → search.tree.now ≡ tree → search.relation ≡ relation → search.query.now ≡ query → search.slots ≡ slots → LacksRoom search top pairs room out → (n : ℕ) → IsEnoughForTree n tree slots pairs room → HasRoomForAnswers tree top relation query out → ⊥
 lacking_there search tree relation query slots top pairs room out e f g h lack n enough place =
-    subst (λ r. r ≡ Variants) f
-    (lack n
+    lack n
     (subst (λ t. IsEnoughForTree n t search.slots pairs room) (sym e) (subst (λ s. IsEnoughForTree n tree s pairs room) (sym h) enough))
-    (subst (λ t. HasRoomForAnswers t top search.relation search.query.now out) (sym e) (subst (λ r. HasRoomForAnswers tree top r search.query.now out) (sym f) (subst (λ l. HasRoomForAnswers tree top relation l out) (sym g) place))))
+    (subst (λ t. HasRoomForAnswers t top search.relation search.query.now out) (sym e) (subst (λ r. HasRoomForAnswers tree top r search.query.now out) (sym f) (subst (λ l. HasRoomForAnswers tree top relation l out) (sym g) place)))

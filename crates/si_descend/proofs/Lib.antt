@@ -10,12 +10,15 @@ pub mod Opening
 pub mod Depths
 pub mod Visiting
 pub mod EnoughLaws
+pub mod RightLaws
 pub mod FreeLaws
 pub mod RenameLaws
 pub mod VariantLaws
 pub mod Entered
 pub mod Starting
 pub mod Retrieving
+pub mod Beginning
+pub mod Lent
 pub mod HeadLaws
 pub mod PlaceLaws
 pub mod AttemptLaws

@@ -185,7 +185,7 @@ passes_root tree legal from key (step ∷ above) e reached = by (λ up f. passes
   by go None f = inl ((legal.nodes step.0 step.1 reached.1).only_root f)
   by go (Some up) f = inr (go up f)
 
-stored_answers : (tree : Tree Term) → IsLegal tree → (relation : Relation) (q : Term) (p : Posting) → IsAnswer tree tree.root relation q p ↔ IsStoredAnswer tree relation q p
+pub stored_answers : (tree : Tree Term) → IsLegal tree → (relation : Relation) (q : Term) (p : Posting) → IsAnswer tree tree.root relation q p ↔ IsStoredAnswer tree relation q p
 stored_answers tree legal relation q p = (
   λ h. (h.term, (h.key, (h.postings, h.leaf, h.among)), h.relates),
   λ h. record {

@@ -1,6 +1,7 @@
 -- Which maps a descent is about: those that make indicator 0 equal to the query, and solve the
 -- bindings of a path.
 use Rattle.std.specs.Prelude.{◌≡◌, ℕ, ◌↔◌, true, false, List}
+use Rattle.std.specs.Borrow.{Bor}
 use Rattle.std.specs.List.{AllByRecursion}
 use Rattle.si_defs.specs.Terms as terms
 use Rattle.si_defs.specs.Substitutions.{Substitution, image, apply}
@@ -9,12 +10,15 @@ use Rattle.si_defs.specs.declared.Relation.TheVariants.{Variants, Instances, Gen
 use Rattle.si_flat.specs.Cells.{Symbol, Variable, query, ind, same_variable, Term, StandsFor}
 use Rattle.si_flat.specs.Flattened.{IsNumberedBy}
 use Rattle.si_flat.specs.declared.Cell.{Cell}
+use Rattle.si_trail.specs.Trails.{Trail}
 use Rattle.si_unify.specs.declared.slots.Slots.{Slots}
 use Rattle.si_unify.specs.Solving.{Pairs, IsInRange, is_frozen, IsSolution}
 use Rattle.si_legal.specs.Bindings.{indicator}
 use Rattle.si_legal.specs.Trees.{Node, Tree, HasNode, Path, IsPath}
 use Rattle.si_legal.specs.Descents.{SolvesPath}
 use Rattle.si_legal.specs.OpenNodes.{RenamesEntry}
+use Rattle.si_fit.specs.Fitting.{AllowsSolving}
+use Rattle.si_tree.specs.Reading.{IsNode}
 
 -- ---- slots
 -- whose variables are constants
@@ -73,3 +77,15 @@ ShowsAbove slots pairs tree key cells =
     (node : Node Term) (above : Path) (q : Term)
     → HasNode tree key node → IsPath tree node.parent above → StandsFor cells q
     → ShowsPath slots pairs q above
+
+-- A descent may begin at this node: the query's variables are numbered, there are slots for all
+-- that can come up, and on the trail the bindings of the nodes above are solved, over indicator 0
+-- for the query.
+pub record MayDescend (tree : Tree Term) (key : ℕ) (relation : Relation) (cells : List Cell)
+    (slots : Slots) (trail : Trail (Bor (List Cell))) : Type 0 where
+  pub node : IsNode tree key
+  pub query : IsQuery cells
+  pub freezes : Freezes relation slots
+  pub room : HasRoomFor slots tree cells
+  pub solving : AllowsSolving slots trail.pairs trail.slots
+  pub above : ShowsAbove slots trail.pairs tree key cells

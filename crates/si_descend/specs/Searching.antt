@@ -1,6 +1,6 @@
 -- What the search of a tree knows at a node, and what it finds below it.
 use Rattle.std.specs.Borrow.{Bor}
-use Rattle.std.specs.Prelude.{◌≡◌, ℕ, zero, suc, ◌<◌, ◌≤◌, ◌^◌, length, Bool, true, false, ⊤, List, [], Option, None, Some, Result, OnOk, Vec, slice_index_or}
+use Rattle.std.specs.Prelude.{◌≡◌, ℕ, zero, suc, ◌<◌, ◌≤◌, ◌^◌, length, Bool, true, false, ⊤, List, Option, None, Some, Result, OnOk, Vec, slice_index_or}
 use Rattle.si_defs.specs.Substitutions.{Grows}
 use Rattle.si_defs.specs.declared.Relation.{Relation}
 use Rattle.si_defs.specs.declared.Relation.TheVariants.{Variants}
@@ -44,10 +44,6 @@ abbrev pub NotesTaken : {T : Type 0} → Relation → Slots → Pairs → Trail 
 NotesTaken Variants slots pairs taken =
     AreTaken slots pairs (length pairs) taken.pairs × (slots.query ≤ taken.slots)
 NotesTaken relation slots pairs taken = Unit {0}
-
-abbrev pub HasNoneTaken : {T : Type 0} → Relation → Slots → Trail T → Type 0
-HasNoneTaken Variants slots taken = (taken.pairs ≡ []) × (slots.query ≤ taken.slots)
-HasNoneTaken relation slots taken = Unit {0}
 
 -- The bindings of the node with this key and of those above it are solved. No key stands for what
 -- is above the root.
@@ -110,6 +106,7 @@ pub record Returns {A E : Type 0} (result : Result A E) (old new : Trail (Bor (L
   pub grows : Grows old.pairs new.pairs
   pub count : new.slots ≡ old.slots
   pub noted : OnOk result (after ≡ before)
+  pub table : after.slots ≡ before.slots
 
 -- ---- what is found
 abbrev pub HasFound : Search → ℕ → List Posting → List Posting → ℕ → Type 0

@@ -6,12 +6,11 @@ ghost use Rattle.si_flat.specs.Cells.{IsWhole};
 ghost use Rattle.si_tree.specs.Reading.{IsNode};
 ghost use Rattle.si_descend.specs.Answers.{Finds, Retrieves};
 ghost use Rattle.si_descend.specs.Counting.{CountsAnswers, HasCounted};
-ghost use Rattle.si_defs.specs.declared.Relation.TheVariants.{Variants};
 ghost use Rattle.si_unify.specs.Rooms.{IsNoLessRoom};
-ghost use Rattle.si_descend.specs.Lending.{HasRoomForAnswers, IsEnoughForTree};
-ghost use Rattle.si_descend.specs.Descending.{Freezes, HasRoomFor, IsQuery, ShowsAbove};
+ghost use Rattle.si_descend.specs.Lending.{HasRoomForAnswers, IsEnoughForTree, IsTableFor};
+ghost use Rattle.si_descend.specs.Descending.{Freezes, IsQuery, MayDescend, ShowsAbove};
 ghost use Rattle.si_fit.specs.Fitting.{AllowsSolving};
-ghost use Rattle.si_descend.specs.Searching.{IsReady, KeepsApart, HasNoneTaken, NotesTaken, HasFound};
+ghost use Rattle.si_descend.specs.Searching.{IsReady, KeepsApart, NotesTaken, HasFound, LacksRoom};
 
 use crate::counting::{Counted, count_at};
 use crate::search::{Search, visit};
@@ -40,12 +39,7 @@ pub fn descend<'a>(
     trail: &mut Trail<&'a [Cell]>,
     out: &mut Vec<Posting>,
 ) -> Result<u64, AllocError>
-    requires node { IsNode tree.now node }
-    requires query { IsQuery query.now }
-    requires freezes { Freezes relation slots.now }
-    requires room { HasRoomFor slots.now tree.now query.now }
-    requires solving { AllowsSolving slots.now trail.old.pairs trail.old.slots }
-    requires above { ShowsAbove slots.now trail.old.pairs tree.now node query.now }
+    requires { MayDescend tree.now node relation query.now slots.now trail.old }
     ensures finds { IfOk result (Finds tree.now node relation query.now
         out.old.items out.new.items) }
     ensures err { OnErr result (out.new.items ≡ out.old.items) }
@@ -53,8 +47,8 @@ pub fn descend<'a>(
     ensures slots { trail.new.slots ≡ trail.old.slots }
 {
     let mut scratch = Scratch::new(alloc);
+    let mut taken = Taken::none(alloc, relation, slots)?;
     descend_with(
-        alloc,
         tree,
         node,
         relation,
@@ -62,19 +56,19 @@ pub fn descend<'a>(
         slots,
         &mut scratch,
         trail,
+        &mut taken,
         out,
     )
 }
 
-/// The same in memory that is lent, which has no less room in the end.
+/// The same in memory that is lent, which has no less room in the end. The table is empty before
+/// and after.
 ///
 /// # Errors
 ///
-/// `AllocError` where there is no memory. But where no variants are sought it never comes if the
-/// scratch has room enough to solve all bindings of the tree over those of the trail, and `out` for
-/// all that can be found. Variants take a table of the query's variables at each call.
+/// `AllocError` where there is no memory. It never comes if the scratch has room enough to solve
+/// all bindings of the tree over those of the trail, and `out` for all that can be found.
 pub fn descend_with<'a>(
-    alloc: Global,
     tree: &'a Tree,
     node: NodeId,
     relation: Relation,
@@ -82,32 +76,34 @@ pub fn descend_with<'a>(
     slots: &Slots,
     scratch: &mut Scratch,
     trail: &mut Trail<&'a [Cell]>,
+    taken: &mut Taken,
     out: &mut Vec<Posting>,
 ) -> Result<u64, AllocError>
-    requires node { IsNode tree.now node }
-    requires query { IsQuery query.now }
-    requires freezes { Freezes relation slots.now }
-    requires room { HasRoomFor slots.now tree.now query.now }
-    requires solving { AllowsSolving slots.now trail.old.pairs trail.old.slots }
-    requires above { ShowsAbove slots.now trail.old.pairs tree.now node query.now }
+    requires may { MayDescend tree.now node relation query.now slots.now trail.old }
+    requires table { IsTableFor relation slots.now taken.old }
     ensures finds { IfOk result (Finds tree.now node relation query.now
         out.old.items out.new.items) }
     ensures err { OnErr result (out.new.items ≡ out.old.items) }
     ensures pairs { trail.new.pairs ≡ trail.old.pairs }
     ensures slots { trail.new.slots ≡ trail.old.slots }
+    ensures table { taken.new ≡ taken.old }
     ensures full { OnErr result ((n : ℕ)
         → IsEnoughForTree n tree.now slots.now trail.old.pairs scratch.old
-        → HasRoomForAnswers tree.now node relation query.now out.old → relation ≡ Variants) }
+        → HasRoomForAnswers tree.now node relation query.now out.old → ⊥) }
     ensures keeps { IsNoLessRoom scratch.old scratch.new }
     ensures room { vec_capacity out.old ≤ vec_capacity out.new }
 {
     let search = Search::new(tree, relation, query, *slots);
     let mark = trail.mark();
     let before = out.len();
-    match search_below(alloc, &search, node, scratch, trail, out) {
-        Ok(count) => Ok(count),
+    match search_below(&search, node, scratch, trail, taken, out) {
+        Ok(count) => {
+            taken.undo(0);
+            Ok(count)
+        }
         Err(error) => {
             trail.undo(mark);
+            taken.undo(0);
             out.truncate(before);
             Err(error)
         }
@@ -181,8 +177,9 @@ fn count_below<'a>(
     Ok(counted)
 }
 
-// Slots for the query, and for all numbers of the tree. A query has no more variables than cells.
-fn slots_for(tree: &Tree, relation: Relation, query: &[Cell]) -> Slots
+/// Slots for a question of the whole tree: for the query, which has no more variables than cells,
+/// and for all numbers of the tree.
+pub fn slots_for(tree: &Tree, relation: Relation, query: &[Cell]) -> Slots
     requires { IsWhole query.now }
     ensures query { result.query ≡ length query.now }
     ensures entry { result.entry ≡ tree.now.vars }
@@ -217,13 +214,14 @@ fn length_of(cells: &[Cell]) -> u32
     }
 }
 
-// The same, but that where memory runs out, bindings and postings may be left.
+// The same, but that variables may stay taken and, where memory runs out, bindings and postings may
+// be left.
 fn search_below<'a>(
-    alloc: Global,
     search: &Search<'a>,
     node: NodeId,
     scratch: &mut Scratch,
     trail: &mut Trail<&'a [Cell]>,
+    taken: &mut Taken,
     out: &mut Vec<Posting>,
 ) -> Result<u64, AllocError>
     requires node { IsNode search.now.tree.now node }
@@ -232,22 +230,21 @@ fn search_below<'a>(
     requires distinct { HasDistinctSlots trail.old.pairs }
     requires above { ShowsAbove search.now.slots trail.old.pairs search.now.tree.now node
         search.now.query.now }
+    requires table { IsTableFor search.now.relation search.now.slots taken.old }
     ensures found { IfOk result (HasFound search.now node out.old.items out.new.items) }
     ensures same { OnOk result (trail.new.pairs ≡ trail.old.pairs) }
     ensures grows { Grows trail.old.pairs trail.new.pairs }
     ensures out_grows { Grows out.old.items out.new.items }
     ensures slots { trail.new.slots ≡ trail.old.slots }
-    ensures full { OnErr result ((n : ℕ) → IsEnoughForTree n search.now.tree.now search.now.slots
-        trail.old.pairs scratch.old → HasRoomForAnswers search.now.tree.now node search.now.relation
-        search.now.query.now out.old → search.now.relation ≡ Variants) }
+    ensures table { taken.new.slots ≡ taken.old.slots }
+    ensures full { OnErr result (LacksRoom search.now node trail.old.pairs scratch.old out.old) }
     ensures keeps { IsNoLessRoom scratch.old scratch.new }
     ensures room { vec_capacity out.old ≤ vec_capacity out.new }
 {
-    let mut taken = Taken::none(alloc, search.relation, &search.slots)?;
-    if !keeps_apart(search, trail, &mut taken) {
+    if !keeps_apart(search, trail, taken) {
         return Ok(0);
     }
-    visit(search, node, scratch, trail, &mut taken, out)
+    visit(search, node, scratch, trail, taken, out)
 }
 
 // Whether the bindings of the nodes above leave them open, where these are solved. What their
@@ -255,11 +252,12 @@ fn search_below<'a>(
 fn keeps_apart(search: &Search<'_>, trail: &Trail<&[Cell]>, taken: &mut Taken) -> bool
     requires ready { IsReady search.now }
     requires solving { AllowsSolving search.now.slots trail.now.pairs trail.now.slots }
-    requires none { HasNoneTaken search.now.relation search.now.slots taken.old }
+    requires table { IsTableFor search.now.relation search.now.slots taken.old }
     ensures apart { IsTrue result
         ↔ KeepsApart search.now.relation search.now.slots trail.now.pairs }
     ensures taken { IsTrue result
         → NotesTaken search.now.relation search.now.slots trail.now.pairs taken.new }
+    ensures slots { taken.new.slots ≡ taken.old.slots }
 {
     match search.relation {
         Relation::Variants => is_renaming(trail, &search.slots, 0, taken),

@@ -11,10 +11,13 @@ mod counting;
 mod descent;
 mod ends;
 mod heads;
+mod rights;
 mod search;
 mod subtrees;
 mod taken;
 mod variants;
 
 pub use counting::Counted;
-pub use descent::{count, descend, descend_with, retrieve};
+pub use descent::{count, descend, descend_with, retrieve, slots_for};
+pub use rights::longest_right;
+pub use taken::Taken;

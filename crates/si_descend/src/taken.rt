@@ -1,9 +1,9 @@
 // Which variables of the query an entry's became.
-ghost use Rattle.std.specs.Prelude.{◌≡◌, ◌<◌, ◌≤◌, IfOk, OnErr, is_none, length, take};
+ghost use Rattle.std.specs.Prelude.{◌≡◌, ◌<◌, ◌≤◌, [], IfOk, OnErr, is_none, length, take};
 ghost use Rattle.si_defs.specs.declared.Relation.TheVariants.{Variants};
 ghost use Rattle.si_trail.specs.Trails.{value_at};
 ghost use Rattle.si_descend.specs.Renaming.{Takes};
-ghost use Rattle.si_descend.specs.Searching.{HasNoneTaken};
+ghost use Rattle.si_descend.specs.Lending.{IsTableFor};
 
 use si_defs::Relation;
 use si_trail::Trail;
@@ -11,10 +11,13 @@ use si_unify::Slots;
 use std::alloc::{AllocError, Global};
 use std::marker::Model;
 
-/// The variables of the query that are taken, in the order in which they were. Where no variants
-/// are sought none can be, and there is no memory for any.
+/// The variables of a query that are taken in a search for variants, in the order in which they
+/// were: an entry's variable became each of them.
+///
+/// It is made once and lent to each search, which leaves it empty. Contracts see it as the trail of
+/// those that are taken, with a slot for each variable that can be.
 #[derive(Drop)]
-pub(crate) struct Taken {
+pub struct Taken {
     trail: Option<Trail<()>>,
 }
 
@@ -28,13 +31,27 @@ impl Model for Taken {
 }
 
 impl Taken {
-    /// None is taken yet.
-    pub(crate) fn none(
-        alloc: Global,
-        relation: Relation,
-        slots: &Slots,
-    ) -> Result<Taken, AllocError>
-        ensures none { IfOk result (HasNoneTaken relation slots.now) }
+    /// None is taken yet. It serves for each relation, and for queries that have no more than so
+    /// many variables. No search takes more memory.
+    ///
+    /// # Errors
+    ///
+    /// `AllocError` where there is no memory.
+    pub fn with_slots(alloc: Global, n: usize) -> Result<Taken, AllocError>
+        ensures { IfOk result (λ t. t ≡ record { slots = n; pairs = [] }) }
+    {
+        let trail = Trail::with_slots(alloc, n)?;
+        Ok(Taken { trail: Some(trail) })
+    }
+
+    /// The same for one relation and the slots of one query. Where no variants are sought none can
+    /// be taken, and there is no memory for any.
+    ///
+    /// # Errors
+    ///
+    /// `AllocError` where variants are sought and there is no memory.
+    pub fn none(alloc: Global, relation: Relation, slots: &Slots) -> Result<Taken, AllocError>
+        ensures none { IfOk result (IsTableFor relation slots.now) }
         ensures err { OnErr result (relation ≡ Variants) }
     {
         match relation {

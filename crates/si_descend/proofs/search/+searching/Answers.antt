@@ -33,6 +33,7 @@ visit-returns-clause-returns t c =
       noted = same_trail c.undo-3.new.self c.args.taken.now
           (c.undo-3.ensures.slots ∙ ap (λ taken. taken.slots) c.in_ok-count.ensures.returns.noted ∙ c.enter.ensures.taken_slots)
           (c.undo-3.ensures.pairs ∙ ap (λ taken. take c.mark-taken_mark.result taken.pairs) c.in_ok-count.ensures.returns.noted ∙ ap (λ n. take n c.enter.new.taken.pairs) c.mark-taken_mark.ensures ∙ front_of c.args.taken.now.pairs c.enter.new.taken.pairs c.enter.ensures.taken_grows);
+      table = c.undo-3.ensures.slots ∙ c.in_ok-count.ensures.returns.table ∙ c.enter.ensures.taken_slots;
     }
 
 pub visit_open-returns-clause-found : goal.visit_open-returns-clause-found

@@ -57,6 +57,10 @@ module _ (search : Search) (ready : IsReady search) where
     pub postings_appended : (old mid ps : List Posting) → mid ≡ old ++ ps → ps ≡ postings_of node.content → mid ≡ old ++ postings_of node.content
     postings_appended old mid ps e f = e ∙ ap (λ l. old ++ l) f
 
+    -- none are, where it has none
+    pub own_none : (old : List Posting) → postings_of node.content ≡ [] → old ≡ old ++ postings_of node.content
+    own_none old none = sym (append-nil old) ∙ ap (λ l. old ++ l) (sym none)
+
     pub found_open : (old mid last : List Posting) (n : ℕ) → IsOpenAt search key → mid ≡ old ++ postings_of node.content → HasFoundBelow search (children_of node.content) mid last n → HasFound search key old last (1 + n)
     found_open old mid last n is e below = by node.content refl e below where
       by : (content : Content) → node.content ≡ content → mid ≡ old ++ postings_of content → HasFoundBelow search (children_of content) mid last n → HasFound search key old last (1 + n)

@@ -1,5 +1,5 @@
 -- What is found where all nodes below are open, child by child.
-use Rattle.std.proofs.Common.{◌≡◌, ℕ, ◌+◌, ◌<◌, ◌≤◌, false, true, List, [], ◌∷◌, ◌++◌, Option, Some, length, take, drop, slice_get, get_or, inl, inr, refl, ap, sym, ◌∙◌, subst}
+use Rattle.std.proofs.Common.{◌≡◌, ℕ, ◌+◌, ◌<◌, ◌≤◌, false, true, List, [], ◌∷◌, ◌++◌, Option, None, Some, length, take, drop, slice_get, get_or, inl, inr, refl, ap, sym, ◌∙◌, subst}
 use Rattle.std.specs.Prelude.{Vec, vec_capacity}
 use Rattle.std.specs.Option.{is_some}
 use Rattle.std.proofs.lemmas.List.{take_more, take_all, take-append-drop}
@@ -11,7 +11,7 @@ use Rattle.si_legal.specs.declared.Posting.{Posting}
 use Rattle.si_legal.specs.Trees.{Content, inner, leaf, Node, HasNode, IsPath, path_term}
 use Rattle.si_legal.specs.Legal.{IsLegalNode, IsLegalContent}
 use Rattle.si_legal.specs.OpenNodes.{IsOpen}
-use Rattle.si_tree.specs.Reading.{children_of, split_of}
+use Rattle.si_tree.specs.Reading.{children_of, postings_of, split_of}
 use Rattle.si_descend.specs.declared.search.Search.{Search}
 use Rattle.si_descend.specs.Searching.{IsReady, IsOpenAt, AreOpenBelow, HasFound, HasFoundBelow, HasRoomBelow}
 use Rattle.si_descend.proofs.Below.{IsChildOf, passes_child, child_passes, passes_first}
@@ -25,6 +25,13 @@ open_at search key all q path stands reached = all q key path stands reached (pa
 
 pub open_child : (search : Search) (key child : ℕ) → IsChildOf search.tree.now key child → AreOpenBelow search key → AreOpenBelow search child
 open_child search key child is all q low path stands reached passes = all q low path stands reached (child_passes search.tree.now (Some low) path key child reached is passes)
+
+-- a node that has a split has no postings
+pub inner_bare : (content : Content) (split : ℕ) → split_of content ≡ Some split → postings_of content ≡ []
+inner_bare (inner split children) n e = refl
+inner_bare (leaf ps) n e = absurd (by e) where
+  by : None ≡ Some n → ⊥
+  by p = cc
 
 -- below a leaf there is no other node
 pub leaf_below : (search : Search) → IsReady search → (key : ℕ) (node : Node Term) → HasNode search.tree.now key node → (o : Option ℕ) → o ≡ split_of node.content → is_some o ≡ false → IsOpenAt search key → AreOpenBelow search key

@@ -93,10 +93,10 @@ fn count_open<'a>(
         counted.add(count_all(search, node));
         return Ok(());
     }
-    let own = search.tree.postings(node).len();
+    // It has children, so it has no postings of its own.
     counted.add(Counted {
         passed: 1,
-        answers: own as u64,
+        answers: 0,
     });
     count_children(search, node, scratch, trail, taken, counted)
 }

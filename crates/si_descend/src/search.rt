@@ -156,7 +156,7 @@ fn visit_open<'a>(
     if is_open_below(search, node, trail) {
         return append_all(search, node, out);
     }
-    search.tree.postings(node).append_to(out)?;
+    // It has children, so it has no postings of its own.
     let below = visit_children(search, node, scratch, trail, taken, out)?;
     Ok(1 + below)
 }

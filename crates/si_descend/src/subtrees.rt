@@ -1,5 +1,5 @@
 // Whole subtrees that are open: they are walked, and no binding is solved.
-ghost use Rattle.std.specs.Prelude.{◌≡◌, ◌≤◌, IfOk, IsTrue, OnErr, false, vec_capacity};
+ghost use Rattle.std.specs.Prelude.{◌≡◌, ◌≤◌, IfOk, IsFalse, IsTrue, OnErr, false, vec_capacity};
 ghost use Rattle.si_defs.specs.Substitutions.{Grows};
 ghost use Rattle.si_tree.specs.Reading.{IsNode};
 ghost use Rattle.si_flat.specs.Cells.{ind};
@@ -8,7 +8,7 @@ ghost use Rattle.si_unify.specs.Solving.{slot_of};
 ghost use Rattle.si_fit.specs.Fitting.{AllowsSolving};
 ghost use Rattle.si_descend.specs.Counting.{HasCounted};
 ghost use Rattle.si_descend.specs.Searching.{AreOpenBelow, HasComeTo, HasFound, IsOpenAt, IsReady, LacksPlace};
-ghost use Rattle.si_descend.specs.Subtrees.{has_symbol};
+ghost use Rattle.si_descend.specs.Subtrees.{has_symbol, HasNoPostings};
 
 use crate::counting::Counted;
 use crate::ends::{Ends, are_clear, find_ends_below};
@@ -22,7 +22,7 @@ use std::alloc::AllocError;
 
 /// Whether all nodes below an open node are known to be open: it is a leaf, or instances or
 /// unifiable terms are sought, and all open indicators stand for different variables of which
-/// nothing else is told.
+/// nothing else is told. Where that isn't known, the node has children, and no postings of its own.
 #[inline(always)]
 pub(crate) fn is_open_below<'a>(
     search: &Search<'a>,
@@ -34,7 +34,8 @@ pub(crate) fn is_open_below<'a>(
     requires solving { AllowsSolving search.now.slots trail.now.pairs trail.now.slots }
     requires there { HasComeTo search.now (Some node) trail.now.pairs }
     requires opened { IsOpenAt search.now node }
-    ensures { IsTrue result → AreOpenBelow search.now node }
+    ensures below { IsTrue result → AreOpenBelow search.now node }
+    ensures inner { IsFalse result → HasNoPostings search.now.tree.now node }
 {
     let Some(split) = search.tree.split(node) else {
         return true;

@@ -1,7 +1,7 @@
-use Rattle.std.proofs.Common.{refl, ◌∙◌, subst, arith}
+use Rattle.std.proofs.Common.{[], refl, sym, ◌∙◌, subst, arith}
 use Rattle.std.proofs.lemmas.Result.{on_ok_weaker}
 use Rattle.si_changes.proofs.Frames.{legal_nodes}
-use Rattle.si_descend.specs.Counting.{CountsMoreBelow, IsSumOf}
+use Rattle.si_descend.specs.Counting.{CountsMoreBelow}
 use Rattle.si_descend.specs.Searching.{HasEntered}
 use Rattle.si_descend.proofs.Below.{IsChildOf}
 use Rattle.si_descend.proofs.CountLaws.{more_closed, more_open, more_none, more_tried, more_all}
@@ -22,8 +22,8 @@ count_open-returns-clause-counted t c =
     on_ok_weaker c.count_children.result
     (λ below.
     more_open c.args.search.now c.requires.there.searching.ready c.args.node c.requires.there.node.0 c.requires.there.node.1 c.requires.opened
-    c.postings.result (c.postings.ensures c.requires.there.node.0 c.requires.there.node.1) (omega (arith, c.len-own.ensures, c.len-own.type_inv))
-    c.args.counted.now c.add-2.new.self c.count_children.new.counted (subst (λ n. IsSumOf c.args.counted.now (record { passed = 1; answers = n }) c.add-2.new.self) c.len-own.ensures c.add-2.ensures) (below c.requires.there.node.0 c.requires.there.node.1))
+    [] (sym (c.is_open_below.ensures.inner c.if-is_open_below.false c.requires.there.node.0 c.requires.there.node.1)) (omega arith)
+    c.args.counted.now c.add-2.new.self c.count_children.new.counted c.add-2.ensures (below c.requires.there.node.0 c.requires.there.node.1))
     c.count_children.ensures.counted
 
 pub count_in_order-loop-place-init : goal.count_in_order-loop-place-init

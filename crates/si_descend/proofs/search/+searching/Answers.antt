@@ -1,14 +1,14 @@
 use Rattle.std.proofs.lemmas.Result.{on_err_weaker}
 use Rattle.si_term.proofs.Results.{on_err}
-use Rattle.si_tree.specs.Reading.{AtNode, children_of, postings_of}
+use Rattle.si_tree.specs.Reading.{AtNode, children_of}
 use Rattle.si_unify.proofs.RoomLaws.{same_room, room_on}
-use Rattle.si_descend.proofs.EnoughLaws.{enough_still, enough_back, no_place, own_fit, below_fits}
-use Rattle.std.proofs.Common.{length, ◌+◌, [], take, refl, ap, sym, ◌∙◌, subst, append-nil, arith}
+use Rattle.si_descend.proofs.EnoughLaws.{enough_still, enough_back, below_fits}
+use Rattle.std.proofs.Common.{◌+◌, [], take, refl, ap, sym, ◌∙◌, subst, append-nil, arith}
 use Rattle.si_changes.proofs.Frames.{legal_nodes}
 use Rattle.si_descend.specs.Searching.{HasEntered, HasFoundBelow, LacksRoom, LacksRoomBelow}
 use Rattle.si_descend.proofs.Below.{IsChildOf}
 use Rattle.si_descend.proofs.Depths.{child_deeper, falls}
-use Rattle.si_descend.proofs.Visiting.{goes_down, postings_appended, same_trail, found_closed, found_open, none_yet, few_below, few_found, found_grows}
+use Rattle.si_descend.proofs.Visiting.{goes_down, own_none, same_trail, found_closed, found_open, none_yet, few_below, few_found, found_grows}
 use Rattle.si_descend.specs.declared.attempts.Attempts.TheVariants.{InOrder, ByHeads}
 use Rattle.si_descend.proofs.AttemptLaws.{IsUnderway, none_tried, one_not_tried, tried_child, found_more, next_fits, found_all}
 use Rattle.si_unify.proofs.Answering.{front_of}
@@ -38,8 +38,8 @@ visit-returns-clause-returns t c =
 
 pub visit_open-returns-clause-found : goal.visit_open-returns-clause-found
 visit_open-returns-clause-found t c =
-    found_open c.args.search.now c.requires.there.searching.ready c.args.node c.requires.there.node.0 c.requires.there.node.1 c.args.out.now.items c.append_to.new.others.items c.visit_children.new.out.items c.in_ok-below.below c.requires.opened
-    (postings_appended c.args.search.now c.requires.there.searching.ready c.args.node c.requires.there.node.0 c.requires.there.node.1 c.args.out.now.items c.append_to.new.others.items c.postings.result c.in_ok-append_to.ensures.ok (c.postings.ensures c.requires.there.node.0 c.requires.there.node.1))
+    found_open c.args.search.now c.requires.there.searching.ready c.args.node c.requires.there.node.0 c.requires.there.node.1 c.args.out.now.items c.args.out.now.items c.visit_children.new.out.items c.in_ok-below.below c.requires.opened
+    (own_none c.args.search.now c.requires.there.searching.ready c.args.node c.requires.there.node.0 c.requires.there.node.1 c.args.out.now.items (c.is_open_below.ensures.inner c.if-is_open_below.false c.requires.there.node.0 c.requires.there.node.1))
     (c.in_ok-below.ensures.found c.requires.there.node.0 c.requires.there.node.1)
 
 pub visit_open-overflow_add-result : goal.visit_open-overflow_add-result
@@ -48,8 +48,8 @@ visit_open-overflow_add-result t c =
       arith,
       few_found c.args.search.now c.requires.there.searching.ready c.args.node c.args.out.now.items c.visit_children.new.out.items (1 + c.in_ok-below.below)
           (
-          found_open c.args.search.now c.requires.there.searching.ready c.args.node c.requires.there.node.0 c.requires.there.node.1 c.args.out.now.items c.append_to.new.others.items c.visit_children.new.out.items c.in_ok-below.below c.requires.opened
-          (postings_appended c.args.search.now c.requires.there.searching.ready c.args.node c.requires.there.node.0 c.requires.there.node.1 c.args.out.now.items c.append_to.new.others.items c.postings.result c.in_ok-append_to.ensures.ok (c.postings.ensures c.requires.there.node.0 c.requires.there.node.1))
+          found_open c.args.search.now c.requires.there.searching.ready c.args.node c.requires.there.node.0 c.requires.there.node.1 c.args.out.now.items c.args.out.now.items c.visit_children.new.out.items c.in_ok-below.below c.requires.opened
+          (own_none c.args.search.now c.requires.there.searching.ready c.args.node c.requires.there.node.0 c.requires.there.node.1 c.args.out.now.items (c.is_open_below.ensures.inner c.if-is_open_below.false c.requires.there.node.0 c.requires.there.node.1))
           (c.in_ok-below.ensures.found c.requires.there.node.0 c.requires.there.node.1)
           ),
     )
@@ -227,22 +227,11 @@ visit_open-returns-then-is_open_below-clause-full t c = on_err_weaker c.append_a
 pub visit_open-returns-then-is_open_below-clause-keeps : goal.visit_open-returns-then-is_open_below-clause-keeps
 visit_open-returns-then-is_open_below-clause-keeps t c = same_room c.args.scratch.now
 
-pub visit_open-returns-in_err-append_to-clause-keeps : goal.visit_open-returns-in_err-append_to-clause-keeps
-visit_open-returns-in_err-append_to-clause-keeps t c = same_room c.args.scratch.now
-
-pub visit_open-returns-in_err-append_to-clause-full : goal.visit_open-returns-in_err-append_to-clause-full
-visit_open-returns-in_err-append_to-clause-full t c =
-    let node = c.requires.there.node in
-    let lack : LacksRoom c.args.search.now c.args.node c.args.trail.now.pairs c.args.scratch.now c.args.out.now = λ n enough room. no_place c.args.out.now (length (postings_of node.0.content)) (length c.postings.result)
-    (own_fit c.args.search.now c.requires.there.searching.ready c.args.node node.0 node.1 c.args.out.now c.requires.opened room)
-    c.in_err-append_to.ensures.full (ap length (c.postings.ensures node.0 node.1)) in
-    on_err _ lack
-
 pub visit_open-returns-in_err-below-clause-full : goal.visit_open-returns-in_err-below-clause-full
 visit_open-returns-in_err-below-clause-full t c =
     let node = c.requires.there.node in
     let lack : LacksRoom c.args.search.now c.args.node c.args.trail.now.pairs c.args.scratch.now c.args.out.now = λ n enough room. c.in_err-below.ensures.full node.0 node.1 n enough
-    (below_fits c.args.search.now c.requires.there.searching.ready c.args.node node.0 node.1 c.args.out.now c.append_to.new.others c.requires.opened
-    (postings_appended c.args.search.now c.requires.there.searching.ready c.args.node node.0 node.1 c.args.out.now.items c.append_to.new.others.items c.postings.result c.in_ok-append_to.ensures.ok (c.postings.ensures node.0 node.1))
-    c.append_to.ensures.keeps room) in
+    (below_fits c.args.search.now c.requires.there.searching.ready c.args.node node.0 node.1 c.args.out.now c.args.out.now c.requires.opened
+    (own_none c.args.search.now c.requires.there.searching.ready c.args.node node.0 node.1 c.args.out.now.items (c.is_open_below.ensures.inner c.if-is_open_below.false node.0 node.1))
+    (omega arith) room) in
     on_err _ lack

@@ -9,7 +9,7 @@ use Rattle.si_flat.specs.Cells.{Term}
 use Rattle.si_legal.specs.declared.Posting.{Posting}
 use Rattle.si_legal.specs.StoredSets.{IsUnder}
 use Rattle.si_held.specs.TwoTrees.{TwoTrees, tree_for, AreLegal, IsNewKey, HoldSame, RemovesClause}
-use Rattle.si_forest.specs.declared.pair.Location.{Location}
+use Rattle.si_forest.specs.Locations.{Location}
 use Rattle.si_forest.specs.Pairs.{ChangeOnly}
 use Rattle.si_forest.specs.Locations.{posting_of, AreLocated}
 use Rattle.si_forest.specs.Kept.{AreNoted}

@@ -17,7 +17,7 @@ use Rattle.si_legal.specs.StoredSets.{IsUnder}
 use Rattle.si_legal.specs.KeptTrees.{is_literal}
 use Rattle.si_held.specs.TwoTrees.{TwoTrees, tree_for, AreLegal, IsNewKey, IsPostingIn, AddsClause}
 use Rattle.si_changes.specs.Nodes.{MayComeIn}
-use Rattle.si_forest.specs.declared.pair.Location.{Location}
+use Rattle.si_forest.specs.Locations.{Location}
 use Rattle.si_forest.specs.Pairs.{StayStored, GainOne, ChangeOnly}
 use Rattle.si_forest.specs.Locations.{posting_of, location, AreLocated}
 use Rattle.si_forest.proofs.ChangeLaws.{no_item}

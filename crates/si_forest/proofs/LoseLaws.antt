@@ -7,7 +7,7 @@ use Rattle.si_legal.specs.declared.Posting.{Posting}
 use Rattle.si_legal.specs.Trees.{StandsIn}
 use Rattle.si_legal.specs.StoredSets.{IsUnder}
 use Rattle.si_held.specs.TwoTrees.{TwoTrees, tree_for, AreLegal, IsNewKey}
-use Rattle.si_forest.specs.declared.pair.Location.{Location}
+use Rattle.si_forest.specs.Locations.{Location}
 use Rattle.si_forest.specs.Pairs.{LoseOne, ChangeOnly}
 use Rattle.si_forest.specs.Locations.{posting_of, location, AreLocated}
 use Rattle.si_forest.proofs.TreeLaws.{lose_legal, lose_stored, lose_keeps}

@@ -7,7 +7,7 @@ use Rattle.si_legal.specs.declared.Posting.{Posting}
 use Rattle.si_legal.specs.Trees.{StandsIn}
 use Rattle.si_legal.specs.StoredSets.{IsUnder}
 use Rattle.si_held.specs.TwoTrees.{TwoTrees, tree_for}
-use Rattle.si_forest.specs.declared.pair.Location.{Location}
+use Rattle.si_forest.specs.Locations.{Location}
 use Rattle.si_forest.specs.Locations.{location}
 use Rattle.si_forest.specs.Kept.{AreNoted}
 

@@ -45,6 +45,24 @@ pub stay_by : (old new : TwoTrees) (literal : Bool) → AreLegal old → KeepsTr
 stay_by old new literal legal here other = both_kinds KeepsTree old new literal here other (keeps_itself (tree_for (not literal) old) (legal_tree old legal (not literal)))
 
 -- ---- one posting
+-- that came and went again
+pub came_and_went : (old mid new : TwoTrees) (literal : Bool) (t : Term) (p : Posting) (leaf : ℕ) → AreLegal old → ((u : Term) → IsUnder (tree_for literal old) u p → ⊥) → GainOne old mid literal t p leaf → LoseOne mid new literal p → StayStored old new
+came_and_went old mid new literal t p leaf legal none g l = stay_by old new literal legal here (l.other ∙ g.other) where
+  forth : (u : Term) (q : Posting) → IsUnder (tree_for literal new) u q → IsUnder (tree_for literal old) u q
+  forth u q h =
+      let m = (l.here.stored u q).0 h in
+      elim ((g.here.stored u q).0 m.0) as (λ _. IsUnder (tree_for literal old) u q) [ inl a ↦ a | inr e ↦ absurd (m.1 e.1) ]
+
+  back : (u : Term) (q : Posting) → IsUnder (tree_for literal old) u q → IsUnder (tree_for literal new) u q
+  back u q h = (l.here.stored u q).1 ((g.here.stored u q).1 (inl h), λ e. none u (subst (IsUnder (tree_for literal old) u) e h))
+
+  here : KeepsTree (tree_for literal old) (tree_for literal new)
+  here = record {
+    legal = l.here.legal;
+    stored = λ u q. (forth u q, back u q);
+    keeps = λ k u q stands under. l.here.keeps k u q (g.here.keeps k u q stands ((l.here.stored u q).0 under).0) under;
+  }
+
 module _ (old new : TwoTrees) (literal : Bool) (p : Posting) where
   module _ (t : Term) (leaf : ℕ) (g : GainOne old new literal t p leaf) where
     pub gain_legal : AreLegal old → AreLegal new

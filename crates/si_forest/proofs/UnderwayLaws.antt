@@ -14,7 +14,7 @@ use Rattle.si_changes.specs.Nodes.{MayComeIn}
 use Rattle.si_insert.specs.Inserting.{MayInsert}
 use Rattle.si_entries.specs.declared.flat.FlatEntries.{FlatEntries}
 use Rattle.si_entries.specs.FlatWalks.{AreLeft, GivesFirst, GivesFlat, GivesNext}
-use Rattle.si_forest.specs.declared.pair.Location.{Location}
+use Rattle.si_forest.specs.Locations.{Location}
 use Rattle.si_forest.specs.Pairs.{StayStored, GainOne, ChangeOnly}
 use Rattle.si_forest.specs.Locations.{posting_of, location, AreLocated}
 use Rattle.si_forest.proofs.GainLaws.{AreIn, in_start, may_come, in_same, in_more, in_change, in_located, in_all}

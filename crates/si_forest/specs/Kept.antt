@@ -5,7 +5,7 @@ use Rattle.si_flat.specs.Cells.{Term}
 use Rattle.si_legal.specs.declared.Posting.{Posting}
 use Rattle.si_legal.specs.StoredSets.{IsUnder}
 use Rattle.si_held.specs.TwoTrees.{TwoTrees, tree_for, AreLegal}
-use Rattle.si_forest.specs.declared.pair.Location.{Location}
+use Rattle.si_forest.specs.Locations.{Location}
 use Rattle.si_forest.specs.declared.trees.Trees.TheInside.{Inside}
 use Rattle.si_forest.specs.Pairs.{two_of}
 use Rattle.si_forest.specs.Locations.{AreLocated}

@@ -2,6 +2,7 @@
 //! subterms.
 #![tactic(auto)]
 
+mod location;
 mod pair;
 mod trees;
 

@@ -12,6 +12,7 @@ ghost use Rattle.si_forest.specs.OnePosting.{GainsOne, KeepsTree, LosesOne};
 ghost use Rattle.si_forest.specs.Pairs.{two_of, AreAlone, ChangeOnly, GainOne, LoseOne, StayStored};
 ghost use Rattle.si_forest.specs.Locations.{AreLocated};
 
+use crate::location::Location;
 use si_entries::FlatEntries;
 use si_flat::Cell;
 use si_insert::{Openings, insert_cells};
@@ -19,13 +20,6 @@ use si_legal::Posting;
 use si_term::{Clause, SymTable, entry_count};
 use si_tree::{NodeId, Tree};
 use std::alloc::{AllocError, Global};
-
-/// Where a posting stands: in which tree, and in which of its leaves.
-#[derive(Clone, Copy)]
-pub(crate) struct Location {
-    pub(crate) literal: bool,
-    pub(crate) leaf: NodeId,
-}
 
 /// Both trees, and the memory of insertions into them.
 #[derive(Drop)]
@@ -100,7 +94,7 @@ impl Pair {
                 clause: key,
                 entry: entry as u32,
             };
-            self.remove(alloc, *location, posting);
+            self.remove(alloc, location.literal(), location.leaf(), posting);
         }
     }
 
@@ -131,10 +125,34 @@ impl Pair {
                 clause: key,
                 entry: locations.len() as u32,
             };
-            let leaf = self.insert(alloc, literal, entries.cells(), posting)?;
-            locations.push_reserved(Location { literal, leaf });
+            let location = self.place(alloc, literal, entries.cells(), posting)?;
+            locations.push_reserved(location);
         }
         Ok(())
+    }
+
+    // Puts a posting under the term of these cells into the tree of its kind, and answers where it
+    // stands. A leaf whose number is too large for a location is no memory.
+    fn place(
+        &mut self,
+        alloc: Global,
+        literal: bool,
+        cells: &[Cell],
+        posting: Posting,
+    ) -> Result<Location, AllocError>
+        requires legal { AreLegal (two_of self.old) }
+        requires may { MayInsert (tree_for literal (two_of self.old)) cells.now posting }
+        ensures kind { IfOk result (λ at. at.literal ≡ literal) }
+        ensures ok { IfOk result (λ at. (t : Term) → StandsFor cells.now t
+            → GainOne (two_of self.old) (two_of self.new) literal t posting at.leaf) }
+        ensures err { OnErr result (StayStored (two_of self.old) (two_of self.new)) }
+    {
+        let leaf = self.insert(alloc, literal, cells, posting)?;
+        let Some(location) = Location::new(literal, leaf) else {
+            self.remove(alloc, literal, leaf, posting);
+            return Err(AllocError);
+        };
+        Ok(location)
     }
 
     // Puts a posting under the term of these cells into the tree of its kind.
@@ -170,17 +188,17 @@ impl Pair {
         }
     }
 
-    // Takes a posting from where it stands.
-    fn remove(&mut self, alloc: Global, at: Location, posting: Posting)
+    // Takes a posting from the leaf that it stands in.
+    fn remove(&mut self, alloc: Global, literal: bool, leaf: NodeId, posting: Posting)
         requires legal { AreLegal (two_of self.old) }
         requires stands { (t : Term)
-            × StandsIn (tree_for at.literal (two_of self.old)) at.leaf t posting }
-        ensures { LoseOne (two_of self.old) (two_of self.new) at.literal posting }
+            × StandsIn (tree_for literal (two_of self.old)) leaf t posting }
+        ensures { LoseOne (two_of self.old) (two_of self.new) literal posting }
     {
-        if at.literal {
-            take(alloc, &mut self.literals, at.leaf, posting);
+        if literal {
+            take(alloc, &mut self.literals, leaf, posting);
         } else {
-            take(alloc, &mut self.subterms, at.leaf, posting);
+            take(alloc, &mut self.subterms, leaf, posting);
         }
     }
 }

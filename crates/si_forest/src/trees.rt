@@ -12,7 +12,8 @@ ghost use Rattle.si_held.specs.TwoTrees.{TwoTrees, AddsClause, AreLegal, HoldSam
 ghost use Rattle.si_forest.specs.Pairs.{AreAlone};
 ghost use Rattle.si_forest.specs.Kept.{AreNoted};
 
-use crate::pair::{Location, Pair};
+use crate::location::Location;
+use crate::pair::Pair;
 use si_defs::Relation;
 use si_descend::Counted;
 use si_flat::Flat;
@@ -88,7 +89,7 @@ impl Trees {
         requires { (t : Term) × IsUnder (tree_for literal self.now) t posting }
         ensures { (t : Term) × StandsIn (tree_for literal self.now) result t posting }
     {
-        self.locations[posting.clause][posting.entry as usize].leaf
+        self.locations[posting.clause][posting.entry as usize].leaf()
     }
 
     /// Puts a posting for each entry of a clause into its tree. At an error the trees store what

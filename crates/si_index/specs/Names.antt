@@ -55,10 +55,12 @@ pub record AreNamed (items : List (ℕ × Clause)) (key_for : Name → Option �
       → (c : Clause) → IsAmong items (key, c) → name_of c.name ≡ name
   pub listed : (key : ℕ) (c : Clause) → IsAmong items (key, c) → key_for (name_of c.name) ≡ Some key
 
--- The name leads to the key, by its hash or by itself. A hash leads where it led, or from nowhere
--- to the key.
+-- The name leads to the key: by its hash, or by itself where its hash led to a key already. A hash
+-- leads where it led, or from nowhere to the key.
 pub record LeadsTo (name : Name) (key : ℕ) (old new : ClauseNames) : Type 0 where
-  pub here : (hashed_key new.hashed name.text ≡ Some key) ⊎ (key_of new.others name ≡ Some key)
+  pub here : (hashed_key new.hashed name.text ≡ Some key)
+      ⊎ (((k : ℕ) × (hashed_key old.hashed name.text ≡ Some k))
+      × (key_of new.others name ≡ Some key))
   pub hashed : (t : Bytes) → (hashed_key new.hashed t ≡ hashed_key old.hashed t)
       ⊎ ((hashed_key old.hashed t ≡ None) × (hashed_key new.hashed t ≡ Some key))
   pub others : (n : Name) → (n ≡ name → ⊥) → key_of new.others n ≡ key_of old.others n

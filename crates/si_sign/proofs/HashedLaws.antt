@@ -44,7 +44,11 @@ module _ {N : Type 0} (name : N) (key : ℕ) (was_at is_at : N → ℕ → Bool)
   abbrev Led : N → Type 0
   Led n = (leads n ≡ led n) ⊎ ((led n ≡ None) × (leads n ≡ Some key))
 
-  pub led_here : before name ≡ None → is_at name key ≡ true → (leads name ≡ Some key) ⊎ (others name ≡ Some key) → Led name → after name ≡ Some key
+  -- by the hash, or else by the name
+  abbrev LedHere : Type 0
+  LedHere = (leads name ≡ Some key) ⊎ (((k : ℕ) × (led name ≡ Some k)) × (others name ≡ Some key))
+
+  pub led_here : before name ≡ None → is_at name key ≡ true → LedHere → Led name → after name ≡ Some key
   led_here none true_here to change = by to change where
     step : others name ≡ Some key → leads name ≡ led name → (o : Option ℕ) → led name ≡ o → after name ≡ Some key
     step e same None h = nowhere (is_at name) (leads name) (others name) (same ∙ h) ∙ e
@@ -57,9 +61,9 @@ module _ {N : Type 0} (name : N) (key : ℕ) (was_at is_at : N → ℕ → Bool)
           split true b f = let clash : None ≡ Some k = sym none ∙ found_before k h f b in cc
           split false b f = past (is_at name) k (leads name) (others name) (same ∙ h) b ∙ e
 
-    by : (leads name ≡ Some key) ⊎ (others name ≡ Some key) → Led name → after name ≡ Some key
+    by : LedHere → Led name → after name ≡ Some key
     by (inl e) change = here (is_at name) key (leads name) (others name) e true_here
-    by (inr e) (inl same) = step e same (led name) refl
+    by (inr e) (inl same) = step e.1 same (led name) refl
     by (inr e) (inr c) = here (is_at name) key (leads name) (others name) c.1 true_here
 
   pub led_apart : (n : N) → (n ≡ name → ⊥) → Led n → others n ≡ other n → after n ≡ before n

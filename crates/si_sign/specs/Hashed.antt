@@ -21,12 +21,13 @@ chosen is_sought None other = other
 chosen is_sought (Some key) other = cond (is_sought key) (Some key) other
 
 -- The text's hash leads to the key if it was free. Each other text's leads where it led, or from
--- nowhere to the key.
+-- nowhere to the key. If it wasn't free, it led to a key, and all lead where they led.
 abbrev pub LeadsIfFree : Bool → Bytes → ℕ → (old new : Bytes → Option ℕ) → Type 0
 LeadsIfFree true text key old new =
     (new text ≡ Some key)
     × ((other : Bytes) → (new other ≡ old other) ⊎ ((old other ≡ None) × (new other ≡ Some key)))
-LeadsIfFree false text key old new = (other : Bytes) → new other ≡ old other
+LeadsIfFree false text key old new =
+    ((k : ℕ) × (old text ≡ Some k)) × ((other : Bytes) → new other ≡ old other)
 
 -- The text's hash doesn't lead to the key. Each other text's leads where it led, or from the key to
 -- nowhere.

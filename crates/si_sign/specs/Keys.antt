@@ -51,11 +51,13 @@ symbol_key m at kind text =
     chosen (λ key. is_named kind text (at key)) (hashed_key m.hashed text)
     (kind_key m.others kind text)
 
--- The kind and text lead to the key, by the hash or by the text. A hash leads where it led, or from
--- nowhere to the key.
+-- The kind and text lead to the key: by the hash, or by the text where the hash led to a key
+-- already. A hash leads where it led, or from nowhere to the key.
 pub record LeadsTo (kind : SymKind) (text : Bytes) (key : ℕ)
     (old new : SymbolKeys) : Type 0 where
-  pub here : (hashed_key new.hashed text ≡ Some key) ⊎ (kind_key new.others kind text ≡ Some key)
+  pub here : (hashed_key new.hashed text ≡ Some key)
+      ⊎ (((k : ℕ) × (hashed_key old.hashed text ≡ Some k))
+      × (kind_key new.others kind text ≡ Some key))
   pub hashed : (t : Bytes) → (hashed_key new.hashed t ≡ hashed_key old.hashed t)
       ⊎ ((hashed_key old.hashed t ≡ None) × (hashed_key new.hashed t ≡ Some key))
   pub others : (k : SymKind) (t : Bytes) → (k ≡ kind → t ≡ text → ⊥)

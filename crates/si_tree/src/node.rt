@@ -38,6 +38,22 @@ impl Model for NodeId {
     ghost inverse = { λ key. record { key = key } };
 }
 
+impl NodeId {
+    /// The node with this number.
+    pub fn with_number(number: u32) -> NodeId
+        ensures { result ≡ number }
+    {
+        NodeId { key: number }
+    }
+
+    /// Its number, by which it can be kept.
+    pub fn number(self) -> u32
+        ensures { result ≡ self }
+    {
+        self.key
+    }
+}
+
 /// How many nodes a tree has.
 #[derive(Clone, Copy, Debug, PartialEq, Eq)]
 pub struct Counts {

@@ -1,4 +1,4 @@
-use Rattle.std.proofs.Common.{◌≡◌, ℕ, ◌+◌, ◌-◌, ◌<◌, ◌≤◌, length, refl, ap, ◌∙◌, arith}
+use Rattle.std.proofs.Common.{◌≡◌, ℕ, ◌+◌, ◌-◌, ◌<◌, ◌≤◌, ◌++◌, ◌∷◌, [], length, refl, ap, ◌∙◌, arith}
 use Rattle.std.proofs.lemmas.List.{length_push}
 use Rattle.si_defs.specs.declared.TheConstants.{MOST_OCCURRENCES}
 use Rattle.si_term.specs.Meaning.{clause_of}
@@ -29,18 +29,18 @@ overflow_cast-posting g c =
     let few : length c.loop-entries.locations.items ≤ MOST_OCCURRENCES = few_in _ _ _ _ _ _ _ c.loop-entries.invariant.0 (clause_of c.args.clause.now) refl c.requires.may.sound in
     omega (arith, c.len.ensures)
 
-pub insert-requires-clause-may : goal.insert-requires-clause-may
-insert-requires-clause-may g c =
+pub place-requires-clause-may : goal.place-requires-clause-may
+place-requires-clause-may g c =
     may_next _ _ _ _ _ _ _ c.loop-entries.invariant.0 c.next.new.self c.in_ok-literal.field-0 c.in-Some.literal c.in_ok-literal.ensures c.in-Some.is c.len.result c.cells.result.now (omega (arith, c.len.ensures)) c.cells.ensures c.requires.may.new_key
 
-pub returns-in_err-leaf-clause-change : goal.returns-in_err-leaf-clause-change
-returns-in_err-leaf-clause-change g c = change_still _ _ _ _ _ _ _ c.loop-entries.invariant.0 (two_of c.insert.new.self) c.in_err-leaf.ensures.err
+pub returns-in_err-location-clause-change : goal.returns-in_err-location-clause-change
+returns-in_err-location-clause-change g c = change_still _ _ _ _ _ _ _ c.loop-entries.invariant.0 (two_of c.place.new.self) c.in_err-location.ensures.err
 
-pub returns-in_err-leaf-clause-located : goal.returns-in_err-leaf-clause-located
-returns-in_err-leaf-clause-located g c = located_still _ _ _ _ _ _ _ c.loop-entries.invariant.0 (two_of c.insert.new.self) c.in_err-leaf.ensures.err c.requires.may.new_key
+pub returns-in_err-location-clause-located : goal.returns-in_err-location-clause-located
+returns-in_err-location-clause-located g c = located_still _ _ _ _ _ _ _ c.loop-entries.invariant.0 (two_of c.place.new.self) c.in_err-location.ensures.err c.requires.may.new_key
 
-pub returns-in_err-leaf-clause-few : goal.returns-in_err-leaf-clause-few
-returns-in_err-leaf-clause-few g c = few_in _ _ _ _ _ _ _ c.loop-entries.invariant.0 (clause_of c.args.clause.now) refl c.requires.may.sound
+pub returns-in_err-location-clause-few : goal.returns-in_err-location-clause-few
+returns-in_err-location-clause-few g c = few_in _ _ _ _ _ _ _ c.loop-entries.invariant.0 (clause_of c.args.clause.now) refl c.requires.may.sound
 
 pub push_reserved-requires : goal.push_reserved-requires
 push_reserved-requires g c =
@@ -54,12 +54,12 @@ less_left n m k e less = omega arith
 pub loop-entries-smaller : goal.loop-entries-smaller
 loop-entries-smaller g c =
     less_left (length (entries_alone (clause_of c.args.clause.now).literals)) (length c.loop-entries.locations.items) (length c.push_reserved.new.self.items)
-    (ap length c.push_reserved.ensures.items ∙ length_push c.loop-entries.locations.items (location c.in-Some.literal c.in_ok-leaf.leaf))
+    (ap length c.push_reserved.ensures.items ∙ length_push c.loop-entries.locations.items c.in_ok-location.location)
     (room_next _ _ _ _ _ _ _ c.loop-entries.invariant.0 c.next.new.self c.in_ok-literal.field-0 c.in-Some.literal c.in_ok-literal.ensures c.in-Some.is)
 
 pub loop-entries-preserved : goal.loop-entries-preserved
 loop-entries-preserved g c = (
-  next_in _ _ _ _ _ _ _ c.loop-entries.invariant.0 c.next.new.self c.in_ok-literal.field-0 c.in-Some.literal c.in_ok-literal.ensures c.in-Some.is c.len.result c.cells.result.now (omega (arith, c.len.ensures)) c.cells.ensures (two_of c.insert.new.self) c.in_ok-leaf.leaf c.push_reserved.new.self.items c.push_reserved.ensures.items c.in_ok-leaf.ensures.ok,
+  next_in _ _ _ _ _ _ _ c.loop-entries.invariant.0 c.next.new.self c.in_ok-literal.field-0 c.in-Some.literal c.in_ok-literal.ensures c.in-Some.is c.len.result c.cells.result.now (omega (arith, c.len.ensures)) c.cells.ensures (two_of c.place.new.self) c.in_ok-location.location.leaf c.push_reserved.new.self.items (c.push_reserved.ensures.items ∙ ap (λ k. c.loop-entries.locations.items ++ location k c.in_ok-location.location.leaf ∷ []) c.in_ok-location.ensures.kind) c.in_ok-location.ensures.ok,
   c.push_reserved.ensures.capacity ∙ c.loop-entries.invariant.1,
 )
 

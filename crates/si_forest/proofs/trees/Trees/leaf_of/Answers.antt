@@ -24,7 +24,8 @@ index-requires-2 c =
 
 pub returns : goal.returns
 returns c =
-    subst (λ trees. (t : Term) × StandsIn (tree_for c.args.literal trees) c.index-2.result.now.leaf t c.args.posting) c.self.view_is
+    subst (λ trees. (t : Term) × StandsIn (tree_for c.args.literal trees) c.leaf.result t c.args.posting) c.self.view_is
+    (subst (λ n. (t : Term) × StandsIn (tree_for c.args.literal (trees_of c.self.inside)) n t c.args.posting) (sym c.leaf.ensures)
     (noted_leaf c.self.inside.locations.items (trees_of c.self.inside) c.args.literal c.args.posting c.self.invariant.noted
     (subst (λ trees. (t : Term) × IsUnder (tree_for c.args.literal trees) t c.args.posting) (sym c.self.view_is) c.requires)
-    c.index.result.now c.index.ensures c.index-2.result.now c.index-2.ensures)
+    c.index.result.now c.index.ensures c.index-2.result.now c.index-2.ensures))

@@ -35,9 +35,9 @@ use Rattle.si_state.specs.States.{Rules}
 use Rattle.si_sign.proofs.StateLaws.{signature_of_none}
 use Rattle.si_sign.proofs.StoreLaws.{stored_none}
 use Rattle.std.proofs.lemmas.Option.{none-some}
-use Rattle.si_index.specs.Names.{key_in}
+use Rattle.si_index.specs.Names.{key_of_name}
 use Rattle.si_index.specs.Stored.{keyed_clauses, IsKept, AreHeld}
-use Rattle.si_index.specs.Register.{IsRegisterOf, Enters, Uncounts, Leaves, Stays}
+use Rattle.si_index.specs.Register.{IsRegisterOf, Enters, Uncounts, Leaves, IsSameRegister}
 use Rattle.si_index.specs.declared.register.Register.{Register}
 
 -- ---- the clauses with their keys
@@ -134,7 +134,7 @@ module _ (items : List (ℕ × term.Clause)) (register : Register) (trees : TwoT
   uncounted_held c between new after enters now undone =
       still_held between new items after now undone.signature undone.numbers (λ s. omega (arith, enters.uses s, is.signed s, undone.uses s))
 
-  pub stays_held : (new : Register) → Stays items register new → AreHeld items new trees
+  pub stays_held : (new : Register) → IsSameRegister items register new → AreHeld items new trees
   stays_held new same = still_held register new items trees held same.signature same.numbers (λ s. omega (arith, same.uses s, is.signed s))
 
   -- a clause goes from the trees, and then from the register
@@ -164,7 +164,7 @@ none_held items register trees none unknown alone =
       vacant true key other = alone.0.others key other
       vacant false key other = alone.1.others key other
 
-pub none_kept : (rules : Rules) (items : List (ℕ × term.Clause)) (register : Register) → rules.entries ≤ MOST_OCCURRENCES → items ≡ [] → ((name : Name) → key_in [] register.names name ≡ None) → register.signature ≡ []
+pub none_kept : (rules : Rules) (items : List (ℕ × term.Clause)) (register : Register) → rules.entries ≤ MOST_OCCURRENCES → items ≡ [] → ((name : Name) → key_of_name [] register.names name ≡ None) → register.signature ≡ []
     → register.entries ≡ 0 → IsKept rules items register
 none_kept rules items register small none unnamed unknown uncounted =
     subst (λ l. IsKept rules l register) (sym none)

@@ -23,8 +23,8 @@ use Rattle.si_sign.proofs.StoreLaws.{stored_more, stored_less}
 use Rattle.si_sign.proofs.UsesOf.{among_numbering, numbering_among, uses_positive, uses_among}
 use Rattle.si_keyed.specs.Keyed.{HasKey, HasKeyAt, IsTakenOut}
 use Rattle.si_index.specs.Kept.{KeysStay, clauses_of}
-use Rattle.si_index.specs.Names.{key_in, AreNamed, ChangesName, LeadsAway}
-use Rattle.si_index.specs.Register.{IsRegisterOf, HasPut, Admits, Enters, Uncounts, Leaves, Stays, Bars}
+use Rattle.si_index.specs.Names.{key_of_name, AreNamed, ChangesName, NameLeadsAway}
+use Rattle.si_index.specs.Register.{IsRegisterOf, HasPut, Admits, Enters, Uncounts, Leaves, IsSameRegister, Bars}
 use Rattle.si_index.specs.Stored.{IsKept}
 use Rattle.si_index.specs.declared.register.Register.{Register}
 use Rattle.si_index.specs.declared.names.ClauseNames.{ClauseNames}
@@ -40,11 +40,11 @@ some_is None h = absurd (false≢true h)
 some_is (Some x) h = (x, refl)
 
 module _ (rules : Rules) (items : List (ℕ × term.Clause)) (register : Register) (c : Clause) (is : IsRegisterOf items register) (good : IsSignature register.signature) where
-  pub name_free : key_in items register.names c.name ≡ None → IsTaken (clauses_of items) c.name → ⊥
-  name_free e = unknown_free items (key_in items register.names) is.names c.name e
+  pub name_free : key_of_name items register.names c.name ≡ None → IsTaken (clauses_of items) c.name → ⊥
+  name_free e = unknown_free items (key_of_name items register.names) is.names c.name e
 
   pub rejects : IsSoundClause c → (f : AddFault) → Bars rules.entries items register c f → Rejects rules (clauses_of items) c f
-  rejects sound add_fault.Taken why = let found = some_is (key_in items register.names c.name) why in leads_taken items (key_in items register.names) is.names c.name found.0 found.1
+  rejects sound add_fault.Taken why = let found = some_is (key_of_name items register.names c.name) why in leads_taken items (key_of_name items register.names) is.names c.name found.0 found.1
   rejects sound (add_fault.Clash clash) (free, names) = by (clashes_in_state (clauses_of items) register.signature good is.signed (clause_symbols c) clash names) where
     by : NamesFirstClash (state_symbols (clauses_of items)) (clause_symbols c) clash → Rejects rules (clauses_of items) c (add_fault.Clash clash)
     by (found, kept, first, shapes) = (found, kept, (name_free free, first), shapes)
@@ -76,12 +76,12 @@ room_for rules items register c kept sound =
 pub counted_few : (rules : Rules) (items : List (ℕ × term.Clause)) (register : Register) → IsKept rules items register → register.entries ≤ MOST_OCCURRENCES
 counted_few rules items register kept = omega (arith, kept.registered.counted, kept.stored.few, kept.small)
 
-pub kept_stays : (rules : Rules) (old new : Register) (items : List (ℕ × term.Clause)) → IsKept rules items old → Stays items old new → IsKept rules items new
+pub kept_stays : (rules : Rules) (old new : Register) (items : List (ℕ × term.Clause)) → IsKept rules items old → IsSameRegister items old new → IsKept rules items new
 kept_stays rules old new items kept same = record {
   small = kept.small;
   stored = kept.stored;
   registered = record {
-    names = named_stays items (key_in items old.names) (key_in items new.names) kept.registered.names same.names;
+    names = named_stays items (key_of_name items old.names) (key_of_name items new.names) kept.registered.names same.names;
     signature = same.signature;
     signed = λ s. same.uses s ∙ kept.registered.signed s;
     used = same.sum ∙ kept.registered.used;
@@ -99,11 +99,11 @@ module _ (rules : Rules) (old between : Register) (items more : List (ℕ × ter
   pub accepts_more : Accepts rules (clauses_of items) (clause_of c) (clauses_of more)
   accepts_more = subst (Accepts rules (clauses_of items) (clause_of c)) (sym clauses_more) (accepts rules items old (clause_of c) kept.registered good sound admits)
 
-  names_more : AreNamed more (key_in more names)
+  names_more : AreNamed more (key_of_name more names)
   names_more =
-      subst (λ l. AreNamed l (key_in more names)) (sym put.1.pushed)
-      (named_more items put.0 c (key_in items between.names) (key_in more names) (subst (λ m. AreNamed items (key_in items m)) (sym enters.names) kept.registered.names) put.1.fresh
-      (ap (λ m. key_in items m (name_of c.name)) enters.names ∙ admits.free) put.1.name)
+      subst (λ l. AreNamed l (key_of_name more names)) (sym put.1.pushed)
+      (named_more items put.0 c (key_of_name items between.names) (key_of_name more names) (subst (λ m. AreNamed items (key_of_name items m)) (sym enters.names) kept.registered.names) put.1.fresh
+      (ap (λ m. key_of_name items m (name_of c.name)) enters.names ∙ admits.free) put.1.name)
 
   pub kept_more : IsKept rules more (record { names = names; signature = between.signature; entries = between.entries })
   kept_more =
@@ -148,9 +148,9 @@ module _ (rules : Rules) (old between : Register) (items more : List (ℕ × ter
 
   pub keys_more : KeysStay (kept_as items) (kept_as more)
   keys_more =
-      let free = ap (λ m. key_in items m (name_of c.name)) enters.names ∙ admits.free in
-      keys_stay items more (key_in items between.names) (key_in more names) (subst (λ m. AreNamed items (key_in items m)) (sym enters.names) kept.registered.names) names_more
-      (keys_through (name_of c.name) (Some put.0) (key_in items between.names) (key_in more names) put.1.name (inl free))
+      let free = ap (λ m. key_of_name items m (name_of c.name)) enters.names ∙ admits.free in
+      keys_stay items more (key_of_name items between.names) (key_of_name more names) (subst (λ m. AreNamed items (key_of_name items m)) (sym enters.names) kept.registered.names) names_more
+      (keys_through (name_of c.name) (Some put.0) (key_of_name items between.names) (key_of_name more names) put.1.name (inl free))
 
 -- the same with other names
 pub register_with : (new between : Register) → new.signature ≡ between.signature → new.entries ≡ between.entries → record { names = new.names; signature = between.signature; entries = between.entries } ≡ new
@@ -180,12 +180,12 @@ numbers_through old between new good more first second s m n a b =
     first s m here.used.number a middle ∙ second s here.used.number n middle b
 
 pub entered_back : (items : List (ℕ × term.Clause)) (old between new : Register) (c : Clause) → IsSignature old.signature → Enters c old between
-    → ((name : Name) → key_in items new.names name ≡ key_in items between.names name)
+    → ((name : Name) → key_of_name items new.names name ≡ key_of_name items between.names name)
     → ((s : Symbol) → uses_of new.signature s + times s (clause_symbols c) ≡ uses_of between.signature s)
     → total new.signature + length (clause_symbols c) ≡ total between.signature → new.entries ≡ old.entries
-    → KeepsNumbers between.signature new.signature → IsSignature new.signature → Stays items old new
+    → KeepsNumbers between.signature new.signature → IsSignature new.signature → IsSameRegister items old new
 entered_back items old between new c good enters same uses sum entered numbers signature = record {
-  names = λ name. same name ∙ ap (λ m. key_in items m name) enters.names;
+  names = λ name. same name ∙ ap (λ m. key_of_name items m name) enters.names;
   uses = λ s. omega (arith, enters.uses s, uses s);
   sum = omega (arith, enters.sum, sum);
   entered = entered;
@@ -233,20 +233,20 @@ module _ (rules : Rules) (old : Register) (items : List (ℕ × term.Clause)) (k
       (distinct_between (clause_of c) (clauses_of out.after) (clauses_of out.before) stored_there.distinct).0
       (subst (λ l. IsTaken l (name_of c.name)) (map-append (λ p. clause_of p.1) out.before out.after) h)
 
-  names_there : AreNamed (out.before ++ (key, c) ∷ out.after) (key_in (out.before ++ (key, c) ∷ out.after) old.names)
-  names_there = subst (λ l. AreNamed l (key_in l old.names)) out.whole kept.registered.names
+  names_there : AreNamed (out.before ++ (key, c) ∷ out.after) (key_of_name (out.before ++ (key, c) ∷ out.after) old.names)
+  names_there = subst (λ l. AreNamed l (key_of_name l old.names)) out.whole kept.registered.names
 
-  known_there : key_in (out.before ++ (key, c) ∷ out.after) old.names (name_of c.name) ≡ Some key
+  known_there : key_of_name (out.before ++ (key, c) ∷ out.after) old.names (name_of c.name) ≡ Some key
   known_there = names_there.listed key c (among_back out.before ((key, c) ∷ out.after) (key, c) (inl refl))
 
-  name_gone : (new : ClauseNames) → LeadsAway (name_of c.name) key old.names new
-      → ChangesName (name_of c.name) None (key_in (out.before ++ (key, c) ∷ out.after) old.names) (key_in (out.before ++ out.after) new)
+  name_gone : (new : ClauseNames) → NameLeadsAway (name_of c.name) key old.names new
+      → ChangesName (name_of c.name) None (key_of_name (out.before ++ (key, c) ∷ out.after) old.names) (key_of_name (out.before ++ out.after) new)
   name_gone new left = name_goes out.before key c out.after (names_there.named (name_of c.name) key known_there) old.names new left known_there
 
-  names_less : (new : ClauseNames) → LeadsAway (name_of c.name) key old.names new → AreNamed rest (key_in rest new)
+  names_less : (new : ClauseNames) → NameLeadsAway (name_of c.name) key old.names new → AreNamed rest (key_of_name rest new)
   names_less new left =
-      subst (λ l. AreNamed l (key_in l new)) (sym out.rest)
-      (named_less out.before key c out.after (key_in (out.before ++ (key, c) ∷ out.after) old.names) (key_in (out.before ++ out.after) new) names_there free_without (name_gone new left))
+      subst (λ l. AreNamed l (key_of_name l new)) (sym out.rest)
+      (named_less out.before key c out.after (key_of_name (out.before ++ (key, c) ∷ out.after) old.names) (key_of_name (out.before ++ out.after) new) names_there free_without (name_gone new left))
 
   pub kept_less : (new : Register) → Leaves (clause_of c) key old new → IsKept rules rest new
   kept_less new leaves = record {
@@ -284,17 +284,17 @@ module _ (rules : Rules) (old : Register) (items : List (ℕ × term.Clause)) (k
     };
   }
 
-  pub keys_less : (new : ClauseNames) → LeadsAway (name_of c.name) key old.names new → KeysStay (kept_as items) (kept_as rest)
+  pub keys_less : (new : ClauseNames) → NameLeadsAway (name_of c.name) key old.names new → KeysStay (kept_as items) (kept_as rest)
   keys_less new left =
-      keys_stay items rest (key_in items old.names) (key_in rest new) kept.registered.names (names_less new left)
-      (keys_through (name_of c.name) None (key_in items old.names) (key_in rest new)
-      (subst₂ (λ l m. ChangesName (name_of c.name) None (key_in l old.names) (key_in m new)) (sym out.whole) (sym out.rest) (name_gone new left)) (inr refl))
+      keys_stay items rest (key_of_name items old.names) (key_of_name rest new) kept.registered.names (names_less new left)
+      (keys_through (name_of c.name) None (key_of_name items old.names) (key_of_name rest new)
+      (subst₂ (λ l m. ChangesName (name_of c.name) None (key_of_name l old.names) (key_of_name m new)) (sym out.whole) (sym out.rest) (name_gone new left)) (inr refl))
 
   -- the clause that a name leads to has that name
-  pub named_so : (n : Name) → key_in items old.names n ≡ Some key → name_of c.name ≡ n
+  pub named_so : (n : Name) → key_of_name items old.names n ≡ Some key → name_of c.name ≡ n
   named_so n h = kept.registered.names.named n key h c (key_taken items key c rest out)
 
-  listed_there : (d : term.Clause) → IsAmong (out.before ++ (key, c) ∷ out.after) (key, d) → key_in items old.names (name_of d.name) ≡ Some key
+  listed_there : (d : term.Clause) → IsAmong (out.before ++ (key, c) ∷ out.after) (key, d) → key_of_name items old.names (name_of d.name) ≡ Some key
   listed_there d among = kept.registered.names.listed key d (subst (λ l. IsAmong l (key, d)) (sym out.whole) among)
 
   -- no other clause goes by its key

@@ -15,7 +15,7 @@ use Rattle.si_keyed.proofs.KeyLaws.{key_among}
 use Rattle.si_screen.specs.ClauseRows.{IsRowOf}
 use Rattle.si_screen.proofs.RowLaws.{row_stays}
 use Rattle.si_index.specs.Kept.{clauses_of}
-use Rattle.si_index.specs.Register.{IsRegisterOf, Enters, Uncounts, Leaves, Stays}
+use Rattle.si_index.specs.Register.{IsRegisterOf, Enters, Uncounts, Leaves, IsSameRegister}
 use Rattle.si_index.specs.Stored.{HaveRows}
 use Rattle.si_index.specs.declared.register.Register.{Register}
 use Rattle.si_index.proofs.HeldClauses.{AreUsed, used_in}
@@ -82,7 +82,7 @@ module _ (items : List (ℕ × term.Clause)) (rows : List (ℕ × List ℕ)) (re
   entered_rows c between enters =
       still_rows register.signature between.signature items rows have enters.numbers (λ s. omega (arith, is.signed s)) (λ s. omega (arith, enters.uses s, is.signed s))
 
-  pub stays_rows : (new : Register) → Stays items register new → HaveRows (numbering new.signature) items rows
+  pub stays_rows : (new : Register) → IsSameRegister items register new → HaveRows (numbering new.signature) items rows
   stays_rows new same = still_rows register.signature new.signature items rows have same.numbers (λ s. omega (arith, is.signed s)) (λ s. omega (arith, same.uses s, is.signed s))
 
   pub left_rows : (key : ℕ) (c : term.Clause) (rest : List (ℕ × term.Clause)) (row : List ℕ) (after : List (ℕ × List ℕ)) (new : Register) → IsTakenOut items key c rest → IsTakenOut rows key row after

@@ -38,15 +38,15 @@ abbrev pub same_name : Name → Name → Bool
 same_name m n = same_name_kind m.kind n.kind && bytes_eq m.text n.text
 
 -- whether a clause with this key has this name
-abbrev pub is_named : List (ℕ × Clause) → Name → ℕ → Bool
-is_named [] name key = false
-is_named (p ∷ items) name key =
-    cond (p.0 == key && same_name (name_of p.1.name) name) true (is_named items name key)
+abbrev pub has_name_at : List (ℕ × Clause) → Name → ℕ → Bool
+has_name_at [] name key = false
+has_name_at (p ∷ items) name key =
+    cond (p.0 == key && same_name (name_of p.1.name) name) true (has_name_at items name key)
 
 -- the key of a name, of these clauses
-abbrev pub key_in : List (ℕ × Clause) → ClauseNames → Name → Option ℕ
-key_in items names name =
-    chosen (is_named items name) (hashed_key names.hashed name.text) (key_of names.others name)
+abbrev pub key_of_name : List (ℕ × Clause) → ClauseNames → Name → Option ℕ
+key_of_name items names name =
+    chosen (has_name_at items name) (hashed_key names.hashed name.text) (key_of names.others name)
 
 -- the name of each of these clauses leads to its key, and no other name leads anywhere
 pub record AreNamed (items : List (ℕ × Clause)) (key_for : Name → Option ℕ) : Type 0 where
@@ -57,7 +57,7 @@ pub record AreNamed (items : List (ℕ × Clause)) (key_for : Name → Option �
 
 -- The name leads to the key: by its hash, or by itself where its hash led to a key already. A hash
 -- leads where it led, or from nowhere to the key.
-pub record LeadsTo (name : Name) (key : ℕ) (old new : ClauseNames) : Type 0 where
+pub record NameLeadsTo (name : Name) (key : ℕ) (old new : ClauseNames) : Type 0 where
   pub here : (hashed_key new.hashed name.text ≡ Some key)
       ⊎ (((k : ℕ) × (hashed_key old.hashed name.text ≡ Some k))
       × (key_of new.others name ≡ Some key))
@@ -67,13 +67,13 @@ pub record LeadsTo (name : Name) (key : ℕ) (old new : ClauseNames) : Type 0 wh
 
 -- The name leads to the key no more, neither by its hash nor by itself. A hash leads where it
 -- led, or from the key to nowhere.
-pub record LeadsAway (name : Name) (key : ℕ) (old new : ClauseNames) : Type 0 where
+pub record NameLeadsAway (name : Name) (key : ℕ) (old new : ClauseNames) : Type 0 where
   pub hash_gone : hashed_key new.hashed name.text ≡ Some key → ⊥
   pub hashed : (t : Bytes) → (hashed_key new.hashed t ≡ hashed_key old.hashed t)
       ⊎ ((hashed_key old.hashed t ≡ Some key) × (hashed_key new.hashed t ≡ None))
   pub name_gone : ChangesName name None (key_of old.others) (key_of new.others)
 
 -- all lead where they led
-pub record StayLed (old new : ClauseNames) : Type 0 where
+pub record NamesStayLed (old new : ClauseNames) : Type 0 where
   pub hashed : (t : Bytes) → hashed_key new.hashed t ≡ hashed_key old.hashed t
   pub others : (n : Name) → key_of new.others n ≡ key_of old.others n

@@ -14,13 +14,13 @@ use Rattle.si_sign.specs.declared.faults.AddFault.{AddFault}
 use Rattle.si_sign.specs.declared.faults.AddFault.TheVariants as add_fault
 use Rattle.si_keyed.specs.Keyed.{HasKey}
 use Rattle.si_index.specs.Kept.{clauses_of}
-use Rattle.si_index.specs.Names.{key_in, AreNamed, ChangesName, LeadsAway}
+use Rattle.si_index.specs.Names.{key_of_name, AreNamed, ChangesName, NameLeadsAway}
 use Rattle.si_index.specs.declared.register.Register.{Register}
 use Rattle.si_index.specs.declared.names.ClauseNames.{ClauseNames}
 
 -- it is the register of these clauses
 pub record IsRegisterOf (items : List (ℕ × term.Clause)) (register : Register) : Type 0 where
-  pub names : AreNamed items (key_in items register.names)
+  pub names : AreNamed items (key_of_name items register.names)
   pub signature : IsSignature register.signature
   pub signed : IsSignatureOf (clauses_of items) register.signature
   pub used : total register.signature ≡ length (state_symbols (clauses_of items))
@@ -31,7 +31,8 @@ pub record IsPut (key : ℕ) (clause : term.Clause) (items new : List (ℕ × te
     (old names : ClauseNames) : Type 0 where
   pub fresh : HasKey items key → ⊥
   pub pushed : new ≡ items ++ (key, clause) ∷ []
-  pub name : ChangesName (name_of clause.name) (Some key) (key_in items old) (key_in new names)
+  pub name : ChangesName (name_of clause.name) (Some key) (key_of_name items old)
+      (key_of_name new names)
 
 abbrev pub HasPut : term.Clause → (items new : List (ℕ × term.Clause)) → (old names : ClauseNames)
     → Type 0
@@ -40,7 +41,7 @@ HasPut clause items new old names = (key : ℕ) × IsPut key clause items new ol
 -- the clause may be entered, with this limit on entries
 pub record Admits (limit : ℕ) (items : List (ℕ × term.Clause)) (register : Register)
     (clause : Clause) : Type 0 where
-  pub free : key_in items register.names clause.name ≡ None
+  pub free : key_of_name items register.names clause.name ≡ None
   pub agree : AllAgree (known_symbols register.signature) (clause_symbols clause)
   pub room : register.entries + length (entries clause) ≤ limit
 
@@ -65,12 +66,12 @@ pub record Uncounts (clause : Clause) (old new : Register) : Type 0 where
 
 -- the clause is struck out, and its name leads to its key no more
 pub record Leaves (clause : Clause) (key : ℕ) (old new : Register) : Type 0 where
-  pub name : LeadsAway clause.name key old.names new.names
+  pub name : NameLeadsAway clause.name key old.names new.names
   pub counts : Uncounts clause old new
 
 -- the register says the same of these clauses
-pub record Stays (items : List (ℕ × term.Clause)) (old new : Register) : Type 0 where
-  pub names : (name : Name) → key_in items new.names name ≡ key_in items old.names name
+pub record IsSameRegister (items : List (ℕ × term.Clause)) (old new : Register) : Type 0 where
+  pub names : (name : Name) → key_of_name items new.names name ≡ key_of_name items old.names name
   pub uses : (s : Symbol) → uses_of new.signature s ≡ uses_of old.signature s
   pub sum : total new.signature ≡ total old.signature
   pub entered : new.entries ≡ old.entries
@@ -79,12 +80,13 @@ pub record Stays (items : List (ℕ × term.Clause)) (old new : Register) : Type
 
 -- why a clause isn't entered
 abbrev pub Bars : ℕ → List (ℕ × term.Clause) → Register → Clause → AddFault → Type 0
-Bars limit items register clause add_fault.Taken = IsSome (key_in items register.names clause.name)
+Bars limit items register clause add_fault.Taken =
+    IsSome (key_of_name items register.names clause.name)
 Bars limit items register clause (add_fault.Clash c) =
-    (key_in items register.names clause.name ≡ None)
+    (key_of_name items register.names clause.name ≡ None)
     × NamesFirstClash (known_symbols register.signature) (clause_symbols clause) c
 Bars limit items register clause (add_fault.Full needed most) =
-    (key_in items register.names clause.name ≡ None)
+    (key_of_name items register.names clause.name ≡ None)
     × AllAgree (known_symbols register.signature) (clause_symbols clause)
     × (limit < needed) × (needed ≡ register.entries + length (entries clause))
     × (most ≡ limit)

@@ -17,7 +17,7 @@ use Rattle.si_held.specs.TwoTrees.{TwoTrees, Hold}
 use Rattle.si_sign.specs.Stores.{IsStored}
 use Rattle.si_index.specs.Kept.{clauses_of}
 use Rattle.si_index.specs.Register.{IsRegisterOf}
-use Rattle.si_index.specs.Names.{key_in}
+use Rattle.si_index.specs.Names.{key_of_name}
 use Rattle.si_index.specs.declared.register.Register.{Register}
 
 pub record IsKept (rules : Rules) (items : List (ℕ × term.Clause)) (register : Register)
@@ -44,5 +44,5 @@ pub record MayKeep (clause : term.Clause) (items : List (ℕ × term.Clause)) (r
     (trees : TwoTrees) : Type 0 where
   pub sound : IsSoundClause (clause_of clause)
   pub numbered : unnumbered (numbering register.signature) (clause_symbols (clause_of clause)) ≡ []
-  pub free : key_in items register.names (name_of clause.name) ≡ None
+  pub free : key_of_name items register.names (name_of clause.name) ≡ None
   pub held : AreHeld items register trees

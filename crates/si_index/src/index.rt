@@ -16,7 +16,7 @@ ghost use Rattle.si_index.specs.Kept.{AreKeyed, IsEmpty, KeysStay, NumbersExactl
 ghost use Rattle.si_index.specs.Engines.{TreesAnswer};
 ghost use Rattle.si_index.specs.Register.{IsPut, HasPut};
 ghost use Rattle.si_index.specs.Stored.{AreHeld, HaveRows, MayKeep};
-ghost use Rattle.si_index.specs.Names.{key_in};
+ghost use Rattle.si_index.specs.Names.{key_of_name};
 ghost use Rattle.si_index.specs.Slots.{HasSlots, HaveSlotRows};
 
 use crate::names::ClauseNames;
@@ -200,7 +200,7 @@ fn put(
     clause: Clause,
     row: Row,
 ) -> Result<usize, Clause>
-    requires { key_in clauses.old.items names.old (name_of clause.name) ≡ None }
+    requires { key_of_name clauses.old.items names.old (name_of clause.name) ≡ None }
     ensures put { IfOk result (λ key. IsPut key clause clauses.old.items clauses.new.items
         names.old names.new) }
     ensures row { IfOk result (λ key. clauses.new.marks ≡ clauses.old.marks ++ (key, row) ∷ []) }
@@ -209,7 +209,8 @@ fn put(
     ensures err { OnErr result (clauses.new.items ≡ clauses.old.items) }
     ensures same_rows { OnErr result (clauses.new.marks ≡ clauses.old.marks) }
     ensures same_names { OnErr result ((name : defs.Name)
-        → key_in clauses.old.items names.new name ≡ key_in clauses.old.items names.old name) }
+        → key_of_name clauses.old.items names.new name
+            ≡ key_of_name clauses.old.items names.old name) }
 {
     let key = clauses.push(clause, row)?;
     let kept = clauses.get(key).unwrap();
@@ -236,8 +237,8 @@ fn keep(
     ensures handed_back { IfErr result (λ back. back ≡ clause) }
     ensures err { OnErr result (clauses.new.items ≡ clauses.old.items) }
     ensures same_names { OnErr result ((name : defs.Name)
-        → key_in clauses.old.items register.new.names name
-        ≡ key_in clauses.old.items register.old.names name) }
+        → key_of_name clauses.old.items register.new.names name
+        ≡ key_of_name clauses.old.items register.old.names name) }
     ensures signature { register.new.signature ≡ register.old.signature }
     ensures entries { register.new.entries ≡ register.old.entries }
     ensures held { AreHeld clauses.new.items register.new trees.new }

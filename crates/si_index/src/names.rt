@@ -3,7 +3,7 @@ ghost use Rattle.std.specs.Prelude.{◌≡◌, List, ℕ, None, OnOk, OnErr};
 ghost use Rattle.si_defs.specs.Clauses as defs;
 ghost use Rattle.si_term.specs.Meaning.{name_of};
 ghost use Rattle.si_sign.specs.Hashed.{hashed_key};
-ghost use Rattle.si_index.specs.Names.{key_in, key_of, same_name, AreNamed, LeadsAway, LeadsTo, StayLed};
+ghost use Rattle.si_index.specs.Names.{key_of_name, key_of, same_name, AreNamed, NameLeadsAway, NameLeadsTo, NamesStayLed};
 
 use crate::name_keys::NameKeys;
 use si_defs::NameKind;
@@ -36,8 +36,8 @@ impl ClauseNames {
 
     /// The key of the name, of the clauses of this list.
     pub fn get(&self, clauses: &KeyedList<Clause, Row>, name: &Name) -> Option<usize>
-        requires { AreNamed clauses.now.items (key_in clauses.now.items self.now) }
-        ensures { result ≡ key_in clauses.now.items self.now (name_of name.now) }
+        requires { AreNamed clauses.now.items (key_of_name clauses.now.items self.now) }
+        ensures { result ≡ key_of_name clauses.now.items self.now (name_of name.now) }
     {
         let Some(key) = self.hashed.get(name.text.as_bytes()) else {
             return self.others.get(name);
@@ -53,8 +53,8 @@ impl ClauseNames {
 
     /// Gives this key to a name that has none. At an error the map is as before.
     pub fn insert(&mut self, alloc: Global, name: &Name, key: usize) -> Result<(), AllocError>
-        ensures ok { OnOk result (LeadsTo (name_of name.now) key self.old self.new) }
-        ensures err { OnErr result (StayLed self.old self.new) }
+        ensures ok { OnOk result (NameLeadsTo (name_of name.now) key self.old self.new) }
+        ensures err { OnErr result (NamesStayLed self.old self.new) }
     {
         if self.hashed.insert(name.text.as_bytes(), key)? {
             return Ok(());
@@ -64,7 +64,7 @@ impl ClauseNames {
 
     /// Takes from a name its key. It takes no memory.
     pub fn remove(&mut self, name: &Name, key: usize)
-        ensures { LeadsAway (name_of name.now) key self.old self.new }
+        ensures { NameLeadsAway (name_of name.now) key self.old self.new }
     {
         self.hashed.remove(name.text.as_bytes(), key);
         self.others.remove(name);

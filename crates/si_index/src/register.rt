@@ -9,8 +9,8 @@ ghost use Rattle.si_state.specs.Signatures as signatures;
 ghost use Rattle.si_state.specs.Signatures.{IsSignature, uses_of, known_symbols};
 ghost use Rattle.si_term.specs.Meaning.{clause_of};
 ghost use Rattle.si_sign.specs.declared.uses.TheConstants.{MOST_USES};
-ghost use Rattle.si_index.specs.Names.{key_in, AreNamed};
-ghost use Rattle.si_index.specs.Register.{Admits, Enters, Uncounts, Leaves, Stays, Bars};
+ghost use Rattle.si_index.specs.Names.{key_of_name, AreNamed};
+ghost use Rattle.si_index.specs.Register.{Admits, Enters, Uncounts, Leaves, IsSameRegister, Bars};
 
 use crate::names::ClauseNames;
 use si_keyed::KeyedList;
@@ -30,7 +30,7 @@ pub struct Register {
 impl Register {
     /// The register of no clause.
     pub fn new(alloc: Global) -> Register
-        ensures names { (name : defs.Name) → key_in [] result.names name ≡ None }
+        ensures names { (name : defs.Name) → key_of_name [] result.names name ≡ None }
         ensures signature { result.signature ≡ [] }
         ensures entries { result.entries ≡ 0 }
     {
@@ -52,7 +52,7 @@ impl Register {
         clause: &Clause,
         limit: u64,
     ) -> Result<u32, AddFault>
-        requires named { AreNamed clauses.now.items (key_in clauses.now.items self.old.names) }
+        requires named { AreNamed clauses.now.items (key_of_name clauses.now.items self.old.names) }
         requires signature { IsSignature self.old.signature }
         requires room { signatures.total self.old.signature
             + length (clause_symbols (clause_of clause.now)) ≤ MOST_USES }
@@ -63,7 +63,7 @@ impl Register {
         ensures enters { OnOk result (Enters (clause_of clause.now) self.old self.new) }
         ensures number { IfOk result (λ n. n ≡ length (entries (clause_of clause.now))) }
         ensures why { IfErr result (Bars limit clauses.now.items self.old (clause_of clause.now)) }
-        ensures err { OnErr result (Stays clauses.now.items self.old self.new) }
+        ensures err { OnErr result (IsSameRegister clauses.now.items self.old self.new) }
     {
         if self.names.get(clauses, &clause.name).is_some() {
             return Err(AddFault::Taken);

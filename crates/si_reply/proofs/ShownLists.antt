@@ -15,7 +15,7 @@ use Rattle.si_form.specs.Answers.{StandsForList}
 use Rattle.si_form.specs.Numberings.{list_by, symbols_of, IsVariableOf}
 use Rattle.si_form.specs.SolutionParts.{IsBindingOf}
 use Rattle.si_form.specs.TableNumbers.{HaveNumbers}
-use Rattle.si_reply.specs.NamedLists.{Naming, symbol_number, numbered_variable, IsNamed, IsKnown, AreKnown, ShowsList}
+use Rattle.si_reply.specs.NamedLists.{Naming, symbol_number, numbered_variable, IsNamed, IsKnown, AreNamedByThese, ShowsList}
 
 module _ (names : Naming) where
   mutual
@@ -23,7 +23,7 @@ module _ (names : Naming) where
     known (terms.var x) h k = k.0
     known (terms.app s ts) h k = (h s (inl refl), all_known ts (λ r a. h r (inr a)) k)
 
-    all_known : (ts : terms.Terms Symbol Variable) → HaveNumbers names.numbers (symbols_of_all ts) → AllByRecursion (IsNamed names) (variables_of_all ts) → AreKnown names ts
+    all_known : (ts : terms.Terms Symbol Variable) → HaveNumbers names.numbers (symbols_of_all ts) → AllByRecursion (IsNamed names) (variables_of_all ts) → AreNamedByThese names ts
     all_known terms.none h k = tt
     all_known (terms.more t ts) h k = (
       known t (λ s a. h s (among_front (symbols t) (symbols_of_all ts) s a)) (all_front (IsNamed names) (variables t) (variables_of_all ts) k),

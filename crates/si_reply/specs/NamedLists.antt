@@ -50,11 +50,11 @@ IsNamed n (of_entry x) = IsAmong n.entry_names x
 abbrev mutual
   pub IsKnown : Naming → Apart → Type 0
   IsKnown n (terms.var x) = IsNamed n x
-  IsKnown n (terms.app s ts) = HasNumber n s × AreKnown n ts
+  IsKnown n (terms.app s ts) = HasNumber n s × AreNamedByThese n ts
 
-  pub AreKnown : Naming → terms.Terms Symbol Variable → Type 0
-  AreKnown n terms.none = Unit {0}
-  AreKnown n (terms.more t ts) = IsKnown n t × AreKnown n ts
+  pub AreNamedByThese : Naming → terms.Terms Symbol Variable → Type 0
+  AreNamedByThese n terms.none = Unit {0}
+  AreNamedByThese n (terms.more t ts) = IsKnown n t × AreNamedByThese n ts
 
 -- the cells stand for this term with its numbers
 pub record ShowsTerm (n : Naming) (cs : List Cell) (t : Apart) : Type 0 where
@@ -65,7 +65,7 @@ pub record ShowsTerm (n : Naming) (cs : List Cell) (t : Apart) : Type 0 where
 pub record ShowAll (n : Naming) (cs : List Cell) (ts : terms.Terms Symbol Variable) : Type 0 where
   pub cells_are : cs ≡ cells_of_all (all_numbered (symbol_number n) (numbered_variable n) ts)
   pub sound : AreSound (all_numbered (symbol_number n) (numbered_variable n) ts)
-  pub known : AreKnown n ts
+  pub known : AreNamedByThese n ts
 
 -- the number is this variable's
 pub record ShowsVariable (n : Naming) (owner : Owner) (slot : ℕ) (x : Variable) : Type 0 where

@@ -96,15 +96,15 @@ module _ (number : Symbol → ℕ) where
   heads_below k (o ∷ os) = ap (λ l. number_at number (head o.1) ++ l) (heads_below k os)
 
   mutual
-    heads_of : {V : Type 0} (t : Term Symbol V) → heads (occurrences t) ≡ map number (symbols t)
-    heads_of (var x) = refl
-    heads_of (app s ts) = ap (λ l. number s ∷ l) (heads_from 1 ts)
+    first_heads : {V : Type 0} (t : Term Symbol V) → heads (occurrences t) ≡ map number (symbols t)
+    first_heads (var x) = refl
+    first_heads (app s ts) = ap (λ l. number s ∷ l) (heads_from 1 ts)
 
     heads_from : {V : Type 0} (k : ℕ) (ts : Terms Symbol V) → heads (occurrences_from k ts) ≡ map number (symbols_of_all ts)
     heads_from k none = refl
     heads_from k (more t ts) =
         heads_append (map (below k) (occurrences t)) (occurrences_from (1 + k) ts)
-        ∙ (λ i. (heads_below k (occurrences t) ∙ heads_of t) i ++ heads_from (1 + k) ts i)
+        ∙ (λ i. (heads_below k (occurrences t) ∙ first_heads t) i ++ heads_from (1 + k) ts i)
         ∙ sym (map-append number (symbols t) (symbols_of_all ts))
 
   placed_heads : (k : ℕ) (os : List (List ℕ × clauses.Term)) → head_numbers number (map (placed_term k) os) ≡ heads os

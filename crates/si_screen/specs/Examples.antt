@@ -1,4 +1,5 @@
--- Rows that clauses have, and rows that they don't; terms that are like others, and terms that aren't.
+-- Rows that clauses have, and rows that they don't. Terms that are like others, and terms that
+-- aren't.
 use Rattle.std.specs.Prelude.{◌≡◌, ℕ, true, false, List, [], ◌∷◌, codes}
 use Rattle.si_defs.specs.Bytes.{Bytes}
 use Rattle.si_defs.specs.Terms.{var, app, none, more}
@@ -38,16 +39,16 @@ negated = record {
 abbrev pub ground : Literal
 ground = record { positive = true; atom = app p (more (app a none) none) }
 
-abbrev pub heads_of : List Literal → List ℕ
-heads_of ls = head_numbers (number_in numbers) (entries_from 1 ls)
+abbrev pub first_heads : List Literal → List ℕ
+first_heads ls = head_numbers (number_in numbers) (entries_from 1 ls)
 
 -- the negation has the number above that of its symbol, and the variable has none
 abbrev pub HeadsOfNegation : Type 0
-HeadsOfNegation = heads_of (negated ∷ []) ≡ 1 ∷ 2 ∷ []
+HeadsOfNegation = first_heads (negated ∷ []) ≡ 1 ∷ 2 ∷ []
 
 -- a literal and its negation have different numbers
 abbrev pub HeadsOfTwo : Type 0
-HeadsOfTwo = heads_of (ground ∷ negated ∷ []) ≡ 0 ∷ 4 ∷ 1 ∷ 2 ∷ []
+HeadsOfTwo = first_heads (ground ∷ negated ∷ []) ≡ 0 ∷ 4 ∷ 1 ∷ 2 ∷ []
 
 -- numbers meet at 256
 abbrev pub SameBit : Type 0

@@ -1,4 +1,5 @@
--- Where one term has all symbols of another one, as it has where a substitution takes that one to it.
+-- Where one term has all symbols of another one, as it has where a substitution takes that one to
+-- it.
 use Rattle.std.specs.Prelude.{◌≡◌, List}
 use Rattle.si_defs.specs.Terms.{var, app, none, more}
 use Rattle.si_defs.specs.Clauses.{Term, Terms, Literal}

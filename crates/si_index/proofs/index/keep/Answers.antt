@@ -10,7 +10,7 @@ use Rattle.si_held.proofs.Holding.{same_held}
 use Rattle.si_keyed.specs.Keyed.{HasKey, IsTakenOut}
 use Rattle.si_keyed.proofs.KeyLaws.{pushed_key, taken_back}
 use Rattle.si_keyed.proofs.Results.{some_unless}
-use Rattle.si_index.specs.Names.{key_in, ChangesName, LeadsAway}
+use Rattle.si_index.specs.Names.{key_of_name, ChangesName, NameLeadsAway}
 use Rattle.si_index.specs.Stored.{keyed_clauses, HaveRows}
 use Rattle.si_index.proofs.HeldClauses.{may_add, held_more}
 use Rattle.si_index.proofs.NamedLaws.{put_item, put_taken}
@@ -65,8 +65,8 @@ returns-in-Err-clause-same_names c =
     let key = c.in_ok-key.key in
     let same = put_item items c.put.new.clauses.items key c.args.clause c.get.result c.unwrap-kept.result put.fresh put.pushed c.unwrap-kept.ensures c.get.ensures.some in
     name_back items key c.args.clause put.fresh c.args.register.now.names c.put.new.names c.remove.new.self c.requires.may.free
-    (subst (λ l. ChangesName (name_of c.args.clause.name) (Some key) (key_in items c.args.register.now.names) (key_in l c.put.new.names)) put.pushed put.name)
-    (subst (λ (d : Clause). LeadsAway (name_of d.name) key c.put.new.names c.remove.new.self) same c.remove.ensures)
+    (subst (λ l. ChangesName (name_of c.args.clause.name) (Some key) (key_of_name items c.args.register.now.names) (key_of_name l c.put.new.names)) put.pushed put.name)
+    (subst (λ (d : Clause). NameLeadsAway (name_of d.name) key c.put.new.names c.remove.new.self) same c.remove.ensures)
 
 pub returns-in-Err-clause-held : goal.returns-in-Err-clause-held
 returns-in-Err-clause-held c =

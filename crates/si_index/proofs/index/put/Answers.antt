@@ -2,7 +2,7 @@ use Rattle.std.proofs.Common.{Some, sym, subst}
 use Rattle.si_term.specs.Meaning.{name_of}
 use Rattle.si_term.specs.declared.clause.Clause.{Clause}
 use Rattle.si_keyed.specs.Keyed.{HasKey, IsTakenOut}
-use Rattle.si_index.specs.Names.{key_in, ChangesName, LeadsTo}
+use Rattle.si_index.specs.Names.{key_of_name, ChangesName, NameLeadsTo}
 use Rattle.si_keyed.proofs.KeyLaws.{pushed_key, taken_back}
 use Rattle.si_keyed.proofs.Results.{some_unless}
 use Rattle.si_index.proofs.FoundNames.{name_comes, stay_found}
@@ -26,9 +26,9 @@ returns-in-Ok-clause-put c =
       fresh = fresh;
       pushed = pushed;
       name =
-          subst (λ l. ChangesName (name_of c.args.clause.name) (Some key) (key_in c.args.clauses.now.items c.args.names.now) (key_in l c.insert.new.self)) (sym pushed)
+          subst (λ l. ChangesName (name_of c.args.clause.name) (Some key) (key_of_name c.args.clauses.now.items c.args.names.now) (key_of_name l c.insert.new.self)) (sym pushed)
           (name_comes c.args.clauses.now.items key c.args.clause fresh c.args.names.now c.insert.new.self
-          (subst (λ (d : Clause). LeadsTo (name_of d.name) key c.args.names.now c.insert.new.self)
+          (subst (λ (d : Clause). NameLeadsTo (name_of d.name) key c.args.names.now c.insert.new.self)
           (put_item c.args.clauses.now.items c.push.new.self.items key c.args.clause c.get.result c.unwrap-kept.result fresh pushed c.unwrap-kept.ensures c.get.ensures.some) c.in-Ok.ensures.ok)
           c.requires);
     }

@@ -11,7 +11,7 @@ use Rattle.si_term.specs.declared.clause.Clause.{Clause}
 use Rattle.si_sign.specs.Stores.{Rejects}
 use Rattle.si_index.specs.Kept.{Kept, KeysStay, NumbersStay, clauses_of}
 use Rattle.si_index.specs.Register.{Uncounts}
-use Rattle.si_index.specs.Names.{key_in}
+use Rattle.si_index.specs.Names.{key_of_name}
 use Rattle.si_index.specs.Stored.{IsKept, AreHeld, HaveRows, keyed_clauses}
 use Rattle.si_index.proofs.KeyStays.{kept_as, keys_same, no_trees}
 use Rattle.si_index.proofs.RegisterLaws.{room_for, counted_few, rejects, kept_stays, kept_more, register_with, keys_more, accepts_more, entered_back, uncounted_as, numbers_through}
@@ -53,7 +53,7 @@ keep-requires-clause-may c =
     record {
       sound = c.requires.sound;
       numbered = entered_numbers items c.self.inside.register c.self.inside.trees is c.self.invariant.1 (clause_of c.args.clause) c.enter.new.self enters;
-      free = ap (λ m. key_in items m (name_of c.args.clause.name)) enters.names ∙ c.in-Ok.ensures.admits.free;
+      free = ap (λ m. key_of_name items m (name_of c.args.clause.name)) enters.names ∙ c.in-Ok.ensures.admits.free;
       held = entered_held items c.self.inside.register c.self.inside.trees is c.self.invariant.1 (clause_of c.args.clause) c.enter.new.self enters;
     }
 
@@ -104,7 +104,7 @@ invariant_of-self-in-Err-keep c =
       subst (λ l. IsKept (limited_to c.self.inside.limit) l new) (sym c.in-Err-keep.ensures.err)
           (kept_stays (limited_to c.self.inside.limit) register new items c.self.invariant.0
           (entered_back items register between new (clause_of c.args.clause) c.self.invariant.0.registered.signature enters
-          (λ name. ap (λ m. key_in items m name) c.uncount.ensures.names ∙ c.in-Err-keep.ensures.same_names name)
+          (λ name. ap (λ m. key_of_name items m name) c.uncount.ensures.names ∙ c.in-Err-keep.ensures.same_names name)
           undone.uses undone.sum (omega (arith, undone.entered, enters.entered)) undone.numbers undone.signature)),
       subst (λ l. AreHeld l new c.keep.new.trees) (sym c.in-Err-keep.ensures.err)
           (uncounted_held items register c.self.inside.trees c.self.invariant.0.registered c.self.invariant.1 (clause_of c.args.clause) between new c.keep.new.trees enters
@@ -142,7 +142,7 @@ returns-in-Err-keep-clause-numbers c =
 pub returns-in-Err-clause-keys : goal.returns-in-Err-clause-keys
 returns-in-Err-clause-keys c =
     subst (λ (k : Kept). KeysStay k (kept_as c.self.inside.clauses.items)) c.self.view_is
-    (keys_same c.self.inside.clauses.items (key_in c.self.inside.clauses.items c.self.inside.register.names) c.self.invariant.0.registered.names)
+    (keys_same c.self.inside.clauses.items (key_of_name c.self.inside.clauses.items c.self.inside.register.names) c.self.invariant.0.registered.names)
 
 pub returns-in-Ok-keep-clause-keys : goal.returns-in-Ok-keep-clause-keys
 returns-in-Ok-keep-clause-keys c =
@@ -154,4 +154,4 @@ pub returns-in-Err-keep-clause-keys : goal.returns-in-Err-keep-clause-keys
 returns-in-Err-keep-clause-keys c =
     subst (λ (k : Kept). KeysStay k (kept_as c.keep.new.clauses.items)) c.self.view_is
     (subst (λ l. KeysStay (kept_as c.self.inside.clauses.items) (kept_as l)) (sym c.in-Err-keep.ensures.err)
-    (keys_same c.self.inside.clauses.items (key_in c.self.inside.clauses.items c.self.inside.register.names) c.self.invariant.0.registered.names))
+    (keys_same c.self.inside.clauses.items (key_of_name c.self.inside.clauses.items c.self.inside.register.names) c.self.invariant.0.registered.names))

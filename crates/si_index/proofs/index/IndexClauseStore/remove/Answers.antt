@@ -3,7 +3,7 @@ use Rattle.si_state.specs.States.{limited_to}
 use Rattle.si_state.specs.Acceptance.{IsTaken}
 use Rattle.si_term.specs.Meaning.{clause_of, name_of}
 use Rattle.si_index.specs.Kept.{Kept, KeysStay, TreesHold, clauses_of}
-use Rattle.si_index.specs.Names.{key_in}
+use Rattle.si_index.specs.Names.{key_of_name}
 use Rattle.si_index.proofs.KeyStays.{kept_as}
 use Rattle.si_index.proofs.HeldClauses.{left_held, trees_hold}
 use Rattle.si_index.proofs.RowsKept.{left_rows}
@@ -19,7 +19,7 @@ pub returns-in_err-key-clause-unknown : goal.returns-in_err-key-clause-unknown
 returns-in_err-key-clause-unknown c =
     let name = name_of c.args.name.now in
     if_none c.from_residual.result (λ taken.
-    unknown_free c.self.inside.clauses.items (key_in c.self.inside.clauses.items c.self.inside.register.names) c.self.invariant.0.registered.names name (sym c.in_err-key.ensures)
+    unknown_free c.self.inside.clauses.items (key_of_name c.self.inside.clauses.items c.self.inside.register.names) c.self.invariant.0.registered.names name (sym c.in_err-key.ensures)
     (subst (λ (k : Kept). IsTaken k.clauses name) (sym c.self.view_is) taken))
 
 pub returns-in_err-key-clause-trees : goal.returns-in_err-key-clause-trees

@@ -210,7 +210,7 @@ fn put(
     ensures same_rows { OnErr result (clauses.new.marks ≡ clauses.old.marks) }
     ensures same_names { OnErr result ((name : defs.Name)
         → key_of_name clauses.old.items names.new name
-            ≡ key_of_name clauses.old.items names.old name) }
+        ≡ key_of_name clauses.old.items names.old name) }
 {
     let key = clauses.push(clause, row)?;
     let kept = clauses.get(key).unwrap();

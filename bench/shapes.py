@@ -138,9 +138,9 @@ def fnv(text: str, state: int = 2_166_136_261) -> int:
 
 
 def one_hash(n: int) -> list[str]:
-    """n words that all have one hash: of each pair of blocks that lead to one state, either."""
+    """n words that all have one hash, and one length: of 14 pairs of blocks that lead to one state, either."""
     words, state, letters = ["w"], fnv("w"), Random(1)
-    while len(words) < n:
+    for _ in range(14):
         met: dict[int, str] = {}
         while True:
             block = "".join(letters.choices(LETTERS, k=6))

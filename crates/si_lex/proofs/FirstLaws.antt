@@ -1,10 +1,10 @@
 -- What the first byte says.
-use Rattle.std.proofs.Common.{◌≡◌, ℕ, ◌+◌, ◌<◌, List, [], ◌∷◌, ◌++◌, Bool, true, false, ◌||◌, ◌==◌, drop, length, get_or, refl, ap, sym, ◌∙◌, subst, ◌⊎◌, inl, inr, arith}
+use Rattle.std.proofs.Common.{◌≡◌, ℕ, ◌+◌, ◌<◌, List, [], ◌∷◌, ◌++◌, Bool, true, false, ◌||◌, ◌==◌, drop, length, get_or, refl, ap, sym, ◌∙◌, subst, ◌⊎◌, inl, inr, arith, Some}
 use Rattle.std.proofs.lemmas.Bool.{cond_both, or_cases, or_parts, or_from, false_from_ne_true, false≢true, eqb-true, ne_eqb, cases_eq}
 use Rattle.std.proofs.lemmas.Bool.Decides.{nat_tests}
 use Rattle.std.proofs.lemmas.List.{drop_more}
 use Rattle.si_defs.specs.Bytes.{Bytes, is_white, is_small_letter, is_capital_letter, is_digit}
-use Rattle.si_defs.specs.Grammar.{open_behind}
+use Rattle.si_defs.specs.Grammar.{Bracket, brackets_behind, open_behind}
 use Rattle.si_defs.specs.Tokens.{Token, TokenAt, Spells, is_mark, mark}
 use Rattle.si_defs.specs.declared.TokenKind.{TokenKind}
 use Rattle.si_defs.specs.declared.TokenKind.TheVariants.{Lower, Upper, Dollar, Int, Single, Double, NotEqual, Mark}
@@ -193,3 +193,61 @@ token_depth bytes at depth t rest l a = by a.spelling a.spelled (sym (drop_more 
   by (c ∷ o) s f =
       let same : get_or bytes at 0 ≡ c = cc in
       subst (λ x. open_behind depth t ≡ depth_behind depth (first_of x)) (sym same) (spelled_depth depth t.kind t.text c o s)
+
+-- ---- which brackets
+-- a mark that is no bracket opens and closes none
+pub flat_mark : (c : ℕ) → (c == 40) ≡ false → (c == 91) ≡ false → (c == 41) ≡ false → (c == 93) ≡ false → (stack : List Bracket) → brackets_behind (mark c) stack ≡ Some stack
+flat_mark c m n o p stack = rw (m, n, o, p) refl
+
+-- nor does another token, and it begins with none
+led_brackets : (kind : TokenKind) (c : ℕ) (stack : List Bracket) → leads kind 40 ≡ false → leads kind 91 ≡ false → leads kind 41 ≡ false → leads kind 93 ≡ false → leads kind c ≡ true
+    → Some stack ≡ brackets_behind (mark c) stack
+led_brackets kind c stack m n o p h = sym (flat_mark c (apart kind c 40 m h) (apart kind c 91 n h) (apart kind c 41 o h) (apart kind c 93 p h) stack)
+
+spelled_brackets : (stack : List Bracket) (kind : TokenKind) (text : Bytes) (c : ℕ) (o : Bytes) → Spells kind text (c ∷ o)
+    → brackets_behind (as_token kind text) stack ≡ brackets_behind (mark c) stack
+spelled_brackets stack Mark text c o s =
+    let same : c ≡ s.1.0 = let k = s.0 ∙ s.1.1 in cc in
+    subst (λ x. brackets_behind (as_token Mark x) stack ≡ brackets_behind (mark c) stack) (sym s.1.1) (ap (λ x. brackets_behind (mark x) stack) (sym same))
+spelled_brackets stack Lower text c o s = led_brackets Lower c stack refl refl refl refl (spelling_leads Lower text c o s)
+spelled_brackets stack Upper text c o s = led_brackets Upper c stack refl refl refl refl (spelling_leads Upper text c o s)
+spelled_brackets stack Dollar text c o s = led_brackets Dollar c stack refl refl refl refl (spelling_leads Dollar text c o s)
+spelled_brackets stack Int text c o s = led_brackets Int c stack refl refl refl refl (spelling_leads Int text c o s)
+spelled_brackets stack Single text c o s = led_brackets Single c stack refl refl refl refl (spelling_leads Single text c o s)
+spelled_brackets stack Double text c o s = led_brackets Double c stack refl refl refl refl (spelling_leads Double text c o s)
+spelled_brackets stack NotEqual text c o s = led_brackets NotEqual c stack refl refl refl refl (spelling_leads NotEqual text c o s)
+
+-- the token at a place does to brackets what the mark of its first byte does
+pub token_brackets : (bytes : Bytes) (at : ℕ) (t : Token) (rest : Bytes) (stack : List Bracket) → at < length bytes → TokenAt (drop at bytes) t rest
+    → brackets_behind t stack ≡ brackets_behind (mark (get_or bytes at 0)) stack
+token_brackets bytes at t rest stack l a = by a.spelling a.spelled (sym (drop_more bytes at 0 l) ∙ a.front) where
+  by : (s : Bytes) → Spells t.kind t.text s → get_or bytes at 0 ∷ drop (at + 1) bytes ≡ s ++ rest
+      → brackets_behind t stack ≡ brackets_behind (mark (get_or bytes at 0)) stack
+  by [] s f = absurd (spelling_some t.kind t.text s)
+  by (c ∷ o) s f =
+      let same : get_or bytes at 0 ≡ c = cc in
+      subst (λ x. brackets_behind t stack ≡ brackets_behind (mark x) stack) (sym same) (spelled_brackets stack t.kind t.text c o s)
+
+-- where a closing round bracket stands, that is the token
+led_round : (kind : TokenKind) (c : ℕ) → leads kind 41 ≡ false → c ≡ 41 → leads kind c ≡ true → ⊥
+led_round kind c f e h = false≢true (sym f ∙ ap (leads kind) (sym e) ∙ h)
+
+spelled_round : (kind : TokenKind) (text : Bytes) (c : ℕ) (o : Bytes) → Spells kind text (c ∷ o) → c ≡ 41 → as_token kind text ≡ mark 41
+spelled_round Mark text c o s e =
+    let same : c ≡ s.1.0 = let k = s.0 ∙ s.1.1 in cc in
+    ap (as_token Mark) (s.1.1 ∙ ap (λ x. x ∷ []) (sym same ∙ e))
+spelled_round Lower text c o s e = absurd (led_round Lower c refl e (spelling_leads Lower text c o s))
+spelled_round Upper text c o s e = absurd (led_round Upper c refl e (spelling_leads Upper text c o s))
+spelled_round Dollar text c o s e = absurd (led_round Dollar c refl e (spelling_leads Dollar text c o s))
+spelled_round Int text c o s e = absurd (led_round Int c refl e (spelling_leads Int text c o s))
+spelled_round Single text c o s e = absurd (led_round Single c refl e (spelling_leads Single text c o s))
+spelled_round Double text c o s e = absurd (led_round Double c refl e (spelling_leads Double text c o s))
+spelled_round NotEqual text c o s e = absurd (led_round NotEqual c refl e (spelling_leads NotEqual text c o s))
+
+pub token_round : (bytes : Bytes) (at : ℕ) (t : Token) (rest : Bytes) → at < length bytes → TokenAt (drop at bytes) t rest → get_or bytes at 0 ≡ 41 → t ≡ mark 41
+token_round bytes at t rest l a e = by a.spelling a.spelled (sym (drop_more bytes at 0 l) ∙ a.front) where
+  by : (s : Bytes) → Spells t.kind t.text s → get_or bytes at 0 ∷ drop (at + 1) bytes ≡ s ++ rest → t ≡ mark 41
+  by [] s f = absurd (spelling_some t.kind t.text s)
+  by (c ∷ o) s f =
+      let same : get_or bytes at 0 ≡ c = cc in
+      spelled_round t.kind t.text c o s (sym same ∙ e)

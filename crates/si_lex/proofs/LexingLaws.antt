@@ -14,17 +14,12 @@ use Rattle.si_lex.specs.declared.lexing.TokensEnd.{TokensEnd}
 use Rattle.si_lex.specs.declared.lexing.TokensEnd.TheVariants.{End, Bad, FullStop}
 use Rattle.si_lex.specs.Lexemes.{token_of, tokens_of}
 use Rattle.si_lex.specs.Places.{IsBehindBlanks, IsLexemeAt, NoTokenWithin}
-use Rattle.si_lex.specs.FullStops.{IsStop, HasNoStop, GoesToStop, EndsAtStop}
-use Rattle.si_lex.specs.Lexing.{IsLexed, IsItemLexing, IsLexingUpTo}
+use Rattle.si_lex.specs.FullStops.{IsStop, HasNoStop, GoesToStop, EndsAtStop, depth_from}
+use Rattle.si_lex.specs.Lexing.{IsLexed, AreTokensUpTo}
 use Rattle.si_lex.proofs.BlankLaws.{place_unique}
 use Rattle.si_lex.proofs.TokenLaws.{next_place, blanks_none, begins_unique, begins_prefix}
 
 -- ---- open brackets
--- the number of brackets that are open after some tokens
-abbrev pub depth_from : ℕ → List Token → ℕ
-depth_from d [] = d
-depth_from d (t ∷ ts) = depth_from (open_behind d t) ts
-
 -- some tokens nest at least as deep as they begin
 pub depth-le-nesting : (d : ℕ) (ts : List Token) → d ≤ nesting_from d ts
 depth-le-nesting d [] = omega arith
@@ -40,9 +35,19 @@ pub depth_push : (d : ℕ) (ts : List Token) (t : Token) → depth_from d (ts ++
 depth_push d [] t = refl
 depth_push d (u ∷ us) t = depth_push (open_behind d u) us t
 
+-- and after more of them
+pub depth_append : (d : ℕ) (ts us : List Token) → depth_from d (ts ++ us) ≡ depth_from (depth_from d ts) us
+depth_append d [] us = refl
+depth_append d (t ∷ ts) us = depth_append (open_behind d t) ts us
+
 -- ---- full stops
+-- tokens without one after others
+pub no_stop_append : (d : ℕ) (ts us : List Token) → HasNoStop d ts → HasNoStop (depth_from d ts) us → HasNoStop d (ts ++ us)
+no_stop_append d [] us h k = k
+no_stop_append d (t ∷ ts) us h k = (h.0, no_stop_append (open_behind d t) ts us h.1 k)
+
 -- one more token that does not end an item
-stops_push : (d : ℕ) (ts : List Token) (t : Token) → HasNoStop d ts → (IsStop (depth_from d ts) t → ⊥) → HasNoStop d (ts ++ t ∷ [])
+pub stops_push : (d : ℕ) (ts : List Token) (t : Token) → HasNoStop d ts → (IsStop (depth_from d ts) t → ⊥) → HasNoStop d (ts ++ t ∷ [])
 stops_push d [] t h n = (n, tt)
 stops_push d (u ∷ us) t h n = (h.0, stops_push (open_behind d u) us t h.1 n)
 
@@ -95,7 +100,7 @@ pub next_at : (bytes rest : Bytes) (place : ℕ) (l : Lexeme) → IsBehindBlanks
 next_at bytes rest place l b w s = record { place = drop place bytes; skips = (b.more w).skips; stands = s.stands }
 
 -- the tokens with it
-push_begins : (bytes rest after : Bytes) (tokens : List Lexeme) (l : Lexeme) → Begins bytes (tokens_of tokens) rest → NextToken rest (token_of l) after
+pub push_begins : (bytes rest after : Bytes) (tokens : List Lexeme) (l : Lexeme) → Begins bytes (tokens_of tokens) rest → NextToken rest (token_of l) after
     → Begins bytes (tokens_of (tokens ++ l ∷ [])) after
 push_begins bytes rest after tokens l b n =
     subst (λ ts. Begins bytes ts after) (sym (map_push token_of tokens l)) (begins_append (tokens_of tokens) (token_of l ∷ []) bytes rest after b (after, n, refl))
@@ -220,9 +225,9 @@ full_no_bad : FullStop ≡ Bad → ⊥
 full_no_bad e = cc
 
 -- what was read so far, and no more
-over_read : (item : Bool) (bytes : Bytes) (at : ℕ) (l : Lexing) (depth : ℕ) (s : IsSoFar item bytes at l.start l.tokens.items depth l.end) → (l.stop ≡ End → l.end ≡ length bytes)
-    → IsOver s.rest depth l.stop → IsLexed bytes at l s.rest
-over_read item bytes at l depth s w o = record {
+over_read : (item : Bool) (bytes : Bytes) (at : ℕ) (found : List Lexeme) (start end : ℕ) (why : TokensEnd) (depth : ℕ) (s : IsSoFar item bytes at start found depth end) → (why ≡ End → end ≡ length bytes)
+    → IsOver s.rest depth why → IsLexed bytes at found start end why s.rest
+over_read item bytes at found start end why depth s w o = record {
   from = s.from;
   onward = s.onward;
   within = s.behind.within;
@@ -233,37 +238,37 @@ over_read item bytes at l depth s w o = record {
   nested = s.nested;
   blanks = o.blanks;
   bad = λ e. o.more (λ f. bad_no_end (sym e ∙ f));
-  faulty = λ e. faulty (tokens_of l.tokens.items) s.begins e;
+  faulty = λ e. faulty (tokens_of found) s.begins e;
 } where
-  faulty : (ts : List Token) → Begins (drop at bytes) ts s.rest → (l.stop ≡ End → ⊥) → AreBlanks (drop at bytes) → ⊥
+  faulty : (ts : List Token) → Begins (drop at bytes) ts s.rest → (why ≡ End → ⊥) → AreBlanks (drop at bytes) → ⊥
   faulty [] b e a = o.more e (subst (λ x. AreBlanks x) b a)
   faulty (t ∷ ts) b e a = blanks_none (drop at bytes) a t b.0 b.1
 
-pub over_lexing : (item : Bool) (bytes : Bytes) (at : ℕ) (l : Lexing) (depth : ℕ) (s : IsSoFar item bytes at l.start l.tokens.items depth l.end) → (l.stop ≡ End) ⊎ (l.stop ≡ End → ⊥)
-    → (l.stop ≡ End → l.end ≡ length bytes) → IsOver s.rest depth l.stop → IsLexingUpTo item bytes at l
-over_lexing true bytes at l depth s d w o = record {
+pub over_lexing : (item : Bool) (bytes : Bytes) (at : ℕ) (found : List Lexeme) (start end : ℕ) (why : TokensEnd) (depth : ℕ) (s : IsSoFar item bytes at start found depth end) → (why ≡ End) ⊎ (why ≡ End → ⊥)
+    → (why ≡ End → end ≡ length bytes) → IsOver s.rest depth why → AreTokensUpTo item bytes at found start end why
+over_lexing true bytes at found start end why depth s d w o = record {
   rest = s.rest;
-  read = over_read true bytes at l depth s w o;
+  read = over_read true bytes at found start end why depth s w o;
   stop = λ e. absurd (o.no_stop e);
   no_stop = λ e. s.no_stop refl;
   every = λ ts behind g n u.
-      over_every (tokens_of l.tokens.items) (drop at bytes) s.rest l.stop s.begins (subst (λ k. IsOver s.rest k l.stop) s.opened o) ts behind g n;
+      over_every (tokens_of found) (drop at bytes) s.rest why s.begins (subst (λ k. IsOver s.rest k why) s.opened o) ts behind g n;
 }
-over_lexing false bytes at l depth s d w o = record {
+over_lexing false bytes at found start end why depth s d w o = record {
   rest = s.rest;
-  read = over_read false bytes at l depth s w o;
+  read = over_read false bytes at found start end why depth s w o;
   no_stop = o.no_stop;
-  every = over_every (tokens_of l.tokens.items) (drop at bytes) s.rest l.stop s.begins (subst (λ k. IsOver s.rest k l.stop) s.opened o);
-  whole = over_whole (tokens_of l.tokens.items) (drop at bytes) s.rest l.stop d s.begins (subst (λ k. IsOver s.rest k l.stop) s.opened o);
+  every = over_every (tokens_of found) (drop at bytes) s.rest why s.begins (subst (λ k. IsOver s.rest k why) s.opened o);
+  whole = over_whole (tokens_of found) (drop at bytes) s.rest why d s.begins (subst (λ k. IsOver s.rest k why) s.opened o);
 }
 
 -- at the end of the bytes
-pub lexing_end : (item : Bool) (bytes : Bytes) (at : ℕ) (l : Lexing) (depth : ℕ) → IsSoFar item bytes at l.start l.tokens.items depth l.end → length bytes ≤ l.end → l.stop ≡ End
-    → IsLexingUpTo item bytes at l
-lexing_end item bytes at l depth s w e =
+pub lexing_end : (item : Bool) (bytes : Bytes) (at : ℕ) (found : List Lexeme) (start end : ℕ) (why : TokensEnd) (depth : ℕ) → IsSoFar item bytes at start found depth end → length bytes ≤ end → why ≡ End
+    → AreTokensUpTo item bytes at found start end why
+lexing_end item bytes at found start end why depth s w e =
     let here = s.behind.within in
     let blanks = s.behind.end (omega arith) in
-    over_lexing item bytes at l depth s (inl e) (λ f. omega arith) (record {
+    over_lexing item bytes at found start end why depth s (inl e) (λ f. omega arith) (record {
       no_stop = λ f. end_no_full (sym e ∙ f);
       blanks = λ f. blanks;
       more = λ f. absurd (f e);
@@ -271,34 +276,34 @@ lexing_end item bytes at l depth s w e =
     })
 
 -- where no token stands, or one that nests too deep
-pub lexing_bad : (item : Bool) (bytes : Bytes) (at : ℕ) (l : Lexing) (depth : ℕ) → IsSoFar item bytes at l.start l.tokens.items depth l.end → l.end < length bytes
-    → NoTokenWithin bytes l.end depth → l.stop ≡ Bad → IsLexingUpTo item bytes at l
-lexing_bad item bytes at l depth s w n e =
-    over_lexing item bytes at l depth s (inr (λ f. bad_no_end (sym e ∙ f))) (λ f. absurd (bad_no_end (sym e ∙ f))) (record {
+pub lexing_bad : (item : Bool) (bytes : Bytes) (at : ℕ) (found : List Lexeme) (start end : ℕ) (why : TokensEnd) (depth : ℕ) → IsSoFar item bytes at start found depth end → end < length bytes
+    → NoTokenWithin bytes end depth → why ≡ Bad → AreTokensUpTo item bytes at found start end why
+lexing_bad item bytes at found start end why depth s w n e =
+    over_lexing item bytes at found start end why depth s (inr (λ f. bad_no_end (sym e ∙ f))) (λ f. absurd (bad_no_end (sym e ∙ f))) (record {
       no_stop = λ f. bad_no_full (sym e ∙ f);
       blanks = λ f. absurd (bad_no_end (sym e ∙ f));
       more = λ f. s.behind.goes_on w;
       deep = λ u after k.
-          let same = place_unique s.rest k.place (drop l.end bytes) (next_place s.rest u after k) (s.behind.more w) in
+          let same = place_unique s.rest k.place (drop end bytes) (next_place s.rest u after k) (s.behind.more w) in
           n u after (subst (λ p. TokenAt p u after) same k.stands);
     })
 
 -- after a full stop outside brackets
-pub lexing_stop : (bytes : Bytes) (at : ℕ) (l : Lexing) (tokens : List Lexeme) (depth place : ℕ) (t : Lexeme) → IsSoFar true bytes at l.start tokens depth place
+pub lexing_stop : (bytes : Bytes) (at : ℕ) (found : List Lexeme) (start end : ℕ) (why : TokensEnd) (tokens : List Lexeme) (depth place : ℕ) (t : Lexeme) → IsSoFar true bytes at start tokens depth place
     → place < length bytes → IsLexemeAt bytes place t → open_behind depth (token_of t) ≤ DEEPEST_NESTING → IsStop depth (token_of t)
-    → l.tokens.items ≡ tokens ++ t ∷ [] → l.end ≡ place + length t.spelling.now → l.stop ≡ FullStop → IsItemLexing bytes at l
-lexing_stop bytes at l tokens depth place t s w k d f items end stop =
+    → found ≡ tokens ++ t ∷ [] → end ≡ place + length t.spelling.now → why ≡ FullStop → AreTokensUpTo true bytes at found start end why
+lexing_stop bytes at found start end why tokens depth place t s w k d f items is_end stop =
     let ahead = s.onward in
     let in_bytes = k.within in
-    let begins : Begins (drop at bytes) (tokens_of l.tokens.items) (drop l.end bytes) =
-    subst (λ ts. Begins (drop at bytes) (tokens_of ts) (drop l.end bytes)) (sym items)
-    (subst (λ n. Begins (drop at bytes) (tokens_of (tokens ++ t ∷ [])) (drop n bytes)) (sym end)
+    let begins : Begins (drop at bytes) (tokens_of found) (drop end bytes) =
+    subst (λ ts. Begins (drop at bytes) (tokens_of ts) (drop end bytes)) (sym items)
+    (subst (λ n. Begins (drop at bytes) (tokens_of (tokens ++ t ∷ [])) (drop n bytes)) (sym is_end)
     (push_begins (drop at bytes) s.rest (drop (place + length t.spelling.now) bytes) tokens t s.begins (next_at bytes s.rest place t s.behind w k))) in
-    let ends : EndsAtStop 0 (tokens_of l.tokens.items) =
+    let ends : EndsAtStop 0 (tokens_of found) =
     subst (λ ts. EndsAtStop 0 (tokens_of ts)) (sym items) (subst (λ ts. EndsAtStop 0 ts) (sym (map_push token_of tokens t))
     (ends_push 0 (tokens_of tokens) (token_of t) (s.no_stop refl) (subst (λ n. IsStop n (token_of t)) s.opened f))) in
     record {
-      rest = drop l.end bytes;
+      rest = drop end bytes;
       read = record {
         from = s.from;
         onward = omega arith;
@@ -310,22 +315,22 @@ lexing_stop bytes at l tokens depth place t s w k d f items end stop =
         nested = subst (λ ts. nesting (tokens_of ts) ≤ DEEPEST_NESTING) (sym items) (push_nested tokens t depth s.nested s.opened s.shallow d);
         blanks = λ e. absurd (full_no_end (sym stop ∙ e));
         bad = λ e. absurd (full_no_bad (sym stop ∙ e));
-        faulty = λ e. first_no_blanks (drop at bytes) (drop l.end bytes) (tokens_of l.tokens.items) begins (some ends);
+        faulty = λ e. first_no_blanks (drop at bytes) (drop end bytes) (tokens_of found) begins (some ends);
       };
       stop = λ e. (ends, refl);
       no_stop = λ e. absurd (e stop);
-      every = λ ts behind g n u. by ts behind g u ends (begins_prefix (tokens_of l.tokens.items) ts (drop at bytes) (drop l.end bytes) behind begins g);
+      every = λ ts behind g n u. by ts behind g u ends (begins_prefix (tokens_of found) ts (drop at bytes) (drop end bytes) behind begins g);
     } where
-      some : EndsAtStop 0 (tokens_of l.tokens.items) → tokens_of l.tokens.items ≡ [] → ⊥
+      some : EndsAtStop 0 (tokens_of found) → tokens_of found ≡ [] → ⊥
       some e n = subst (λ ts. EndsAtStop 0 ts) n e
 
-      longer : (ts : List Token) → GoesToStop 0 ts → EndsAtStop 0 (tokens_of l.tokens.items) → (more : List Token) → ts ≡ tokens_of l.tokens.items ++ more
-          → (others : List Token) × (tokens_of l.tokens.items ≡ ts ++ others)
-      longer ts u e [] q = ([], sym (append-nil ts ∙ q ∙ append-nil (tokens_of l.tokens.items)))
-      longer ts u e (x ∷ xs) q = absurd (nothing_behind_stop 0 (tokens_of l.tokens.items) x xs e (subst (λ y. GoesToStop 0 y) q u))
+      longer : (ts : List Token) → GoesToStop 0 ts → EndsAtStop 0 (tokens_of found) → (more : List Token) → ts ≡ tokens_of found ++ more
+          → (others : List Token) × (tokens_of found ≡ ts ++ others)
+      longer ts u e [] q = ([], sym (append-nil ts ∙ q ∙ append-nil (tokens_of found)))
+      longer ts u e (x ∷ xs) q = absurd (nothing_behind_stop 0 (tokens_of found) x xs e (subst (λ y. GoesToStop 0 y) q u))
 
-      by : (ts : List Token) (behind : Bytes) → Begins (drop at bytes) ts behind → GoesToStop 0 ts → EndsAtStop 0 (tokens_of l.tokens.items)
-          → ((more : List Token) × (tokens_of l.tokens.items ≡ ts ++ more)) ⊎ ((more : List Token) × (ts ≡ tokens_of l.tokens.items ++ more))
-          → (others : List Token) × (tokens_of l.tokens.items ≡ ts ++ others)
+      by : (ts : List Token) (behind : Bytes) → Begins (drop at bytes) ts behind → GoesToStop 0 ts → EndsAtStop 0 (tokens_of found)
+          → ((more : List Token) × (tokens_of found ≡ ts ++ more)) ⊎ ((more : List Token) × (ts ≡ tokens_of found ++ more))
+          → (others : List Token) × (tokens_of found ≡ ts ++ others)
       by ts behind g u e (inl m) = m
       by ts behind g u e (inr m) = longer ts u e m.0 m.1

@@ -10,3 +10,6 @@ pub mod ClassLaws
 pub mod FirstLaws
 pub mod LexingLaws
 pub mod ReadBackTokens
+pub mod BracketLaws
+pub mod AnnotationLaws
+pub mod BriefLaws

@@ -22,3 +22,8 @@ abbrev pub EndsAtStop : ℕ → List Token → Type 0
 EndsAtStop depth [] = ⊥
 EndsAtStop depth (t ∷ ts) =
     (IsStop depth t × (ts ≡ [])) ⊎ ((IsStop depth t → ⊥) × EndsAtStop (open_behind depth t) ts)
+
+-- the number of brackets that are open after some tokens, where this many are open before
+abbrev pub depth_from : ℕ → List Token → ℕ
+depth_from depth [] = depth
+depth_from depth (t ∷ ts) = depth_from (open_behind depth t) ts

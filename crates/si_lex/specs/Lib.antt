@@ -6,3 +6,4 @@ pub mod Blanks
 pub mod Places
 pub mod FullStops
 pub mod Lexing
+pub mod Annotations

@@ -6,9 +6,11 @@ ghost use Rattle.si_defs.specs.declared.TheConstants.{DEEPEST_NESTING};
 ghost use Rattle.si_lex.specs.Firsts.{depth_behind};
 ghost use Rattle.si_lex.specs.FullStops.{IsStop};
 ghost use Rattle.si_lex.specs.Lexemes.{token_of};
-ghost use Rattle.si_lex.specs.Lexing.{IsLexing, IsItemLexing, IsLexingUpTo};
+ghost use Rattle.si_lex.specs.Annotations.{IsBriefLexing, IsBriefUpTo};
+ghost use Rattle.si_lex.specs.Lexing.{IsLexing};
 ghost use Rattle.si_lex.specs.Places.{IsLexemeWithin, NoTokenWithin};
 
+use crate::annotations::{ends_formula, past_annotations};
 use crate::blanks::skip_blanks;
 use crate::bytes::{First, first_of};
 use crate::lexeme::Lexeme;
@@ -67,7 +69,7 @@ pub fn lex<'a>(alloc: Global, bytes: &'a [u8], at: usize) -> Result<Lexing<'a>, 
 #[inline(never)]
 pub fn lex_item<'a>(alloc: Global, bytes: &'a [u8], at: usize) -> Result<Lexing<'a>, AllocError>
     requires { at ≤ length bytes.now }
-    ensures read { IfOk result (IsItemLexing bytes.now at) }
+    ensures read { IfOk result (IsBriefLexing bytes.now at) }
     ensures refused { OnErr result (AreBlanks (drop at bytes.now) → ⊥) }
 {
     lex_up_to(alloc, bytes, at, true)
@@ -83,12 +85,13 @@ fn lex_up_to<'a>(
     item: bool,
 ) -> Result<Lexing<'a>, AllocError>
     requires { at ≤ length bytes.now }
-    ensures read { IfOk result (IsLexingUpTo item bytes.now at) }
+    ensures read { IfOk result (IsBriefUpTo item bytes.now at) }
     ensures refused { OnErr result (AreBlanks (drop at bytes.now) → ⊥) }
 {
     let start = skip_blanks(bytes, at);
     let mut tokens = room(alloc, start < bytes.len(), bytes.len())?;
     let mut depth = 0;
+    let mut noted = !item;
     let mut place = start;
     while place < bytes.len() {
         let Some((lexeme, behind)) = lexeme_within(bytes, place, depth) else {
@@ -100,6 +103,17 @@ fn lex_up_to<'a>(
             });
         };
         let end = place + lexeme.spelling.len();
+        let comma = ends_formula(tokens.len(), depth, &lexeme);
+        if comma && !noted {
+            if let Some((bracket, after)) = past_annotations(tokens.as_slice(), bytes, end) {
+                tokens.push(bracket)?;
+                depth = 0;
+                place = skip_blanks(bytes, after);
+                noted = true;
+                continue;
+            }
+        }
+        noted = noted || comma;
         let stops = is_stop(depth, &lexeme);
         tokens.push(lexeme)?;
         if item && stops {

@@ -1,6 +1,7 @@
 //! From bytes to tokens, by TPTP's token grammar.
 #![tactic(auto)]
 
+mod annotations;
 mod blanks;
 mod bytes;
 mod lexeme;

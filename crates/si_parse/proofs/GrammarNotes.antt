@@ -1,60 +1,21 @@
 -- Annotations and the end of a clause: what the readers of them give.
 use Rattle.std.proofs.Common.{◌≡◌, ◌≢◌, ℕ, Bool, true, false, ◌==◌, cond, List, [], ◌∷◌, ◌++◌, Option, Some, None, refl, sym, ap, ◌∙◌, subst, append_assoc, arith, IsTrue}
 use Rattle.std.proofs.lemmas.Option.{same_Some, none-some}
-use Rattle.std.proofs.lemmas.Bool.{false≢true, ne_eqb, eqb-true}
-use Rattle.std.specs.Option.{option_map_or}
+use Rattle.std.proofs.lemmas.Bool.{ne_eqb}
 use Rattle.si_defs.specs.Bytes.{Bytes}
 use Rattle.si_defs.specs.Tokens.{Token, mark}
-use Rattle.si_defs.specs.Grammar.{Bracket, round, square, neither, opening_of, closing_of, brackets_behind, balances, right_bracket, comma}
+use Rattle.si_defs.specs.Grammar.{Bracket, round, square, neither, opening_of, closing_of, brackets_behind, right_bracket, comma}
 use Rattle.si_defs.specs.declared.TokenKind.{TokenKind}
 use Rattle.si_defs.specs.declared.TokenKind.TheVariants as token
 use Rattle.si_defs.proofs.ListLaws.{same_head, same_tail}
+use Rattle.si_lex.proofs.BracketLaws.{and_then, open_after, balanced_open, open_balanced}
 use Rattle.si_parse.specs.Parsing.{ReadsTokens, Anything, NoLiteral}
 use Rattle.si_parse.specs.GrammarRules.{AreAnnotations, IsClosed}
 use Rattle.si_parse.proofs.GrammarTerms.{marks_apart, mark_unequal}
 use Rattle.si_parse.proofs.GrammarFormulas.{right_no_literal}
 use Rattle.si_parse.proofs.ParseSteps.{parses_none, parses_some}
 
--- ---- which brackets are open
-abbrev pub and_then : (List Bracket → Option (List Bracket)) → Option (List Bracket) → Option (List Bracket)
-and_then f None = None
-and_then f (Some next) = f next
-
--- the brackets that are open after some tokens, the last one first; none where one closes another
--- than the last
-abbrev pub open_after : List Token → List Bracket → Option (List Bracket)
-open_after [] pending = Some pending
-open_after (t ∷ ts) pending = and_then (open_after ts) (brackets_behind t pending)
-
--- after one more token
-pub open_more : (ts : List Token) (t : Token) (pending next : List Bracket) → open_after ts pending ≡ Some next → open_after (ts ++ t ∷ []) pending ≡ brackets_behind t next
-open_more [] t pending next e = by (brackets_behind t pending) ∙ ap (brackets_behind t) (same_Some pending next e) where
-  by : (o : Option (List Bracket)) → and_then Some o ≡ o
-  by None = refl
-  by (Some x) = refl
-open_more (u ∷ us) t pending next e = by (λ p f. open_more us t p next f) (brackets_behind u pending) e where
-  by : ((p : List Bracket) → open_after us p ≡ Some next → open_after (us ++ t ∷ []) p ≡ brackets_behind t next)
-      → (o : Option (List Bracket)) → and_then (open_after us) o ≡ Some next → and_then (open_after (us ++ t ∷ [])) o ≡ brackets_behind t next
-  by again None f = absurd (none-some next f)
-  by again (Some p) f = again p f
-
--- tokens balance where no bracket is open after them
-pub balanced_open : (ts : List Token) (pending : List Bracket) → IsTrue (balances ts pending) → open_after ts pending ≡ Some []
-balanced_open [] [] h = refl
-balanced_open [] (b ∷ bs) h = absurd (false≢true h)
-balanced_open (t ∷ ts) pending h = by (λ p f. balanced_open ts p f) (brackets_behind t pending) h where
-  by : ((p : List Bracket) → IsTrue (balances ts p) → open_after ts p ≡ Some []) → (o : Option (List Bracket)) → IsTrue (option_map_or (balances ts) o false) → and_then (open_after ts) o ≡ Some []
-  by again None f = absurd (false≢true f)
-  by again (Some p) f = again p f
-
-pub open_balanced : (ts : List Token) (pending : List Bracket) → open_after ts pending ≡ Some [] → IsTrue (balances ts pending)
-open_balanced [] [] h = refl
-open_balanced [] (b ∷ bs) h = let e : b ∷ bs ≡ [] = same_Some (b ∷ bs) [] h in cc
-open_balanced (t ∷ ts) pending h = by (λ p f. open_balanced ts p f) (brackets_behind t pending) h where
-  by : ((p : List Bracket) → open_after ts p ≡ Some [] → IsTrue (balances ts p)) → (o : Option (List Bracket)) → and_then (open_after ts) o ≡ Some [] → IsTrue (option_map_or (balances ts) o false)
-  by again None f = absurd (none-some [] f)
-  by again (Some p) f = again p f
-
+-- ---- the end of annotations
 -- How some tokens stand beside annotations and their bracket: those end here, or the next token is
 -- one of them.
 pub data Beside (front notes : List Token) (t : Token) (stack : List Bracket) (rest behind : List Token) : Type 0 where

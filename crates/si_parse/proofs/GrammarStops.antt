@@ -17,9 +17,10 @@ use Rattle.si_defs.specs.declared.NameKind.{NameKind}
 use Rattle.si_defs.specs.declared.NameKind.TheVariants as named
 use Rattle.si_defs.specs.declared.TokenKind.TheVariants.{Single}
 use Rattle.si_defs.specs.Texts.{BeginsWithItem}
-use Rattle.si_lex.specs.FullStops.{IsStop, HasNoStop, GoesToStop, EndsAtStop}
+use Rattle.si_lex.specs.FullStops.{IsStop, HasNoStop, GoesToStop, EndsAtStop, depth_from}
 use Rattle.si_lex.proofs.TokenLaws.{blanks_none}
-use Rattle.si_lex.proofs.LexingLaws.{depth_from}
+use Rattle.si_lex.proofs.BracketLaws.{step_depth}
+use Rattle.si_lex.proofs.LexingLaws.{no_stop_append, depth_append}
 use Rattle.si_parse.proofs.GrammarTerms.{head_constant}
 
 -- Inside brackets these tokens have no full stop outside them, and leave as many open as before.
@@ -31,14 +32,6 @@ inside : (d : ℕ) (t : Token) → IsStop (suc d) t → ⊥
 inside d t h = absurd (omega (arith, h.0))
 
 -- ---- one after another
-no_stop_append : (d : ℕ) (ts us : List Token) → HasNoStop d ts → HasNoStop (depth_from d ts) us → HasNoStop d (ts ++ us)
-no_stop_append d [] us h k = k
-no_stop_append d (t ∷ ts) us h k = (h.0, no_stop_append (open_behind d t) ts us h.1 k)
-
-depth_append : (d : ℕ) (ts us : List Token) → depth_from d (ts ++ us) ≡ depth_from (depth_from d ts) us
-depth_append d [] us = refl
-depth_append d (t ∷ ts) us = depth_append (open_behind d t) ts us
-
 ends_append : (d : ℕ) (ts us : List Token) → HasNoStop d ts → EndsAtStop (depth_from d ts) us → EndsAtStop d (ts ++ us)
 ends_append d [] us h k = k
 ends_append d (t ∷ ts) us h k = inr (h.0, ends_append (open_behind d t) ts us h.1 k)
@@ -57,23 +50,23 @@ level_at e h = subst Level (sym e) h
 
 -- ---- single tokens
 -- a token that is no bracket
-abbrev Flat : Token → Type 0
+abbrev pub Flat : Token → Type 0
 Flat t = (opening_of t ≡ neither) × (closing_of t ≡ neither)
 
-flat_depth : (d : ℕ) (t : Token) → Flat t → open_behind d t ≡ d
+pub flat_depth : (d : ℕ) (t : Token) → Flat t → open_behind d t ≡ d
 flat_depth d t h = rw (h.0, h.1) refl
 
 level_flat : (t : Token) (ts : List Token) → Flat t → Level ts → Level (t ∷ ts)
 level_flat t ts h k d = ((inside d t, subst (λ n. HasNoStop n ts) (sym (flat_depth (suc d) t h)) (k d).0), ap (λ n. depth_from n ts) (flat_depth (suc d) t h) ∙ (k d).1)
 
-flat_at : {t u : Token} → t ≡ u → Flat u → Flat t
+pub flat_at : {t u : Token} → t ≡ u → Flat u → Flat t
 flat_at e h = subst Flat (sym e) h
 
 -- ---- brackets
-one_more : (d : ℕ) → d + 1 ≡ suc d
+pub one_more : (d : ℕ) → d + 1 ≡ suc d
 one_more d = omega arith
 
-one_less : (d : ℕ) → suc d - 1 ≡ d
+pub one_less : (d : ℕ) → suc d - 1 ≡ d
 one_less d = omega arith
 
 -- tokens between brackets
@@ -102,7 +95,7 @@ level_square ts h d =
     )
 
 -- ---- terms
-flat_constant : (kind : SymKind) (text : Bytes) (t : Token) → IsConstant kind text t → Flat t
+pub flat_constant : (kind : SymKind) (text : Bytes) (t : Token) → IsConstant kind text t → Flat t
 flat_constant Word text t (inl e) = flat_at e (refl, refl)
 flat_constant Word text t (inr e) = flat_at e (refl, refl)
 flat_constant Dollar text t e = flat_at e (refl, refl)
@@ -161,7 +154,7 @@ level_disjunction : (ls : List Literal) (ts : List Token) → IsDisjunction ls t
 level_disjunction [] ts h = absurd h
 level_disjunction (l ∷ ls) ts (first, others, one, all, e) = level_at e (level_append first others (level_signed l.positive l.atom first one) (level_literals ls others all))
 
-replicate_last : (n : ℕ) (t : Token) → replicate (suc n) t ≡ replicate n t ++ t ∷ []
+pub replicate_last : (n : ℕ) (t : Token) → replicate (suc n) t ≡ replicate n t ++ t ∷ []
 replicate_last zero t = refl
 replicate_last (suc n) t = ap (λ x. t ∷ x) (replicate_last n t)
 
@@ -176,35 +169,6 @@ level_formula : (ls : List Literal) (ts : List Token) → IsFormula ls ts → Le
 level_formula ls ts (n, inner, h, e) = level_at e (level_brackets n inner (level_disjunction ls inner h))
 
 -- ---- annotations
--- the brackets that are open, and their number
-step_depth : (t : Token) (pending next : List Bracket) (k : ℕ) → brackets_behind t pending ≡ Some next → open_behind (length pending + k) t ≡ length next + k
-step_depth t pending next k e = by (opening_of t) refl where
-  longer : (b : Bracket) → b ∷ pending ≡ next → length pending + k + 1 ≡ length next + k
-  longer b f = omega (arith, ap length f)
-
-  shorter : (b : Bracket) (others : List Bracket) → pending ≡ b ∷ others → others ≡ next → length pending + k - 1 ≡ length next + k
-  shorter b others f g = omega (arith, ap length f, ap length g)
-
-  by_closing : opening_of t ≡ neither → (c : Bracket) → closing_of t ≡ c → closed c pending ≡ Some next → open_behind (length pending + k) t ≡ length next + k
-  by_closing f neither g h = rw (f, g) (ap (λ x. length x + k) (same_Some pending next h))
-  by_closing f round g h = rw (f, g) (by_pending pending refl h) where
-    by_pending : (p : List Bracket) → pending ≡ p → closed round p ≡ Some next → length pending + k - 1 ≡ length next + k
-    by_pending [] i j = absurd (none-some next j)
-    by_pending (round ∷ others) i j = shorter round others i (same_Some others next j)
-    by_pending (square ∷ others) i j = absurd (none-some next j)
-    by_pending (neither ∷ others) i j = absurd (none-some next j)
-  by_closing f square g h = rw (f, g) (by_pending pending refl h) where
-    by_pending : (p : List Bracket) → pending ≡ p → closed square p ≡ Some next → length pending + k - 1 ≡ length next + k
-    by_pending [] i j = absurd (none-some next j)
-    by_pending (round ∷ others) i j = absurd (none-some next j)
-    by_pending (square ∷ others) i j = shorter square others i (same_Some others next j)
-    by_pending (neither ∷ others) i j = absurd (none-some next j)
-
-  by : (o : Bracket) → opening_of t ≡ o → open_behind (length pending + k) t ≡ length next + k
-  by round f = rw f (longer round (same_Some (round ∷ pending) next (rw f at e)))
-  by square f = rw f (longer square (same_Some (square ∷ pending) next (rw f at e)))
-  by neither f = by_closing f (closing_of t) refl (rw f at e)
-
 -- balanced tokens leave as many brackets open as were open before those that they close
 level_balanced : (ts : List Token) (pending : List Bracket) (d : ℕ) → IsTrue (balances ts pending) → HasNoStop (length pending + suc d) ts × (depth_from (length pending + suc d) ts ≡ suc d)
 level_balanced [] [] d h = (tt, omega arith)
@@ -232,7 +196,7 @@ level_extra (t ∷ ts) (is, some, balanced) = level_flat t ts (flat_at is (refl,
   level_here d h = subst (λ n. HasNoStop n ts × (depth_from n ts ≡ suc d)) (zero_more d) h
 
 -- ---- names
-flat_name : (kind : NameKind) (text : Bytes) (t : Token) → IsName (record { kind = kind; text = text }) t → Flat t
+pub flat_name : (kind : NameKind) (text : Bytes) (t : Token) → IsName (record { kind = kind; text = text }) t → Flat t
 flat_name named.Word text t (inl e) = flat_at e (refl, refl)
 flat_name named.Word text t (inr e) = flat_at e (refl, refl)
 flat_name named.Int text t e = flat_at e (refl, refl)

@@ -12,6 +12,7 @@ pub mod GrammarClauses
 pub mod GrammarIncludes
 pub mod GrammarSound
 pub mod GrammarStops
+pub mod GrammarBrief
 pub mod ReadingLaws
 pub mod PatternLaws
 pub mod ReadBackTexts

@@ -12,7 +12,7 @@ use Rattle.si_defs.specs.declared.TokenKind.TheVariants.{Lower, Upper, Dollar, I
 use Rattle.si_defs.proofs.ListLaws.{same_head}
 use Rattle.si_defs.proofs.TokenLaws.{begins_split}
 use Rattle.si_lex.specs.Lexemes.{token_of, tokens_of}
-use Rattle.si_lex.specs.Lexing.{IsLexing, IsItemLexing}
+use Rattle.si_lex.specs.Lexing.{IsLexing, AreItemTokens}
 use Rattle.si_lex.specs.FullStops.{HasNoStop, EndsAtStop}
 use Rattle.si_lex.specs.declared.lexeme.Lexeme.{Lexeme}
 use Rattle.si_lex.specs.declared.lexing.Lexing.{Lexing}
@@ -61,8 +61,8 @@ begins_shorter (t ∷ ts) a b g = omega (arith, next_shorter a g.0 t g.1, begins
 tokens_few : (bytes : Bytes) (at : ℕ) (tokens : List Lexeme) (rest : Bytes) → Begins (drop at bytes) (tokens_of tokens) rest → length tokens ≤ length bytes
 tokens_few bytes at tokens rest g = omega (arith, begins_shorter (tokens_of tokens) (drop at bytes) rest g, length-map tokens token_of, length-drop at bytes)
 
-pub item_few : (bytes : Bytes) (at : ℕ) (l : Lexing) → IsItemLexing bytes at l → length l.tokens.items ≤ length bytes
-item_few bytes at l h = tokens_few bytes at l.tokens.items h.rest h.read.begins
+pub item_few : (bytes : Bytes) (at : ℕ) (tokens : List Lexeme) (start end : ℕ) (why : TokensEnd) → AreItemTokens bytes at tokens start end why → length tokens ≤ length bytes
+item_few bytes at tokens start end why h = tokens_few bytes at tokens h.rest h.read.begins
 
 pub text_few : (bytes : Bytes) (l : Lexing) → IsLexing bytes 0 l → length l.tokens.items ≤ length bytes
 text_few bytes l h = tokens_few bytes 0 l.tokens.items h.rest h.read.begins
@@ -75,47 +75,47 @@ foreign_front (t ∷ []) f = absurd f
 foreign_front (t ∷ u ∷ us) f = (t.text, us, f.0.1, λ i. record { kind = f.0.0 i; text = t.text } ∷ f.1 i ∷ us)
 
 -- ---- items
-module _ (bytes : Bytes) (at : ℕ) (l : Lexing) (h : IsItemLexing bytes at l) where
+module _ (bytes : Bytes) (at : ℕ) (tokens : List Lexeme) (start end : ℕ) (why : TokensEnd) (h : AreItemTokens bytes at tokens start end why) where
   -- the tokens of an item that stands in front are all that were read, and they end at its full
   -- stop
-  whole_item : (item : Item) (used others : List Token) → tokens_of l.tokens.items ≡ used ++ others → IsItem item used → (others ≡ []) × (l.stop ≡ FullStop)
-  whole_item item used others e is = by l.stop refl where
+  whole_item : (item : Item) (used others : List Token) → tokens_of tokens ≡ used ++ others → IsItem item used → (others ≡ []) × (why ≡ FullStop)
+  whole_item item used others e is = by why refl where
     ends : EndsAtStop 0 used
     ends = item_stops item used is
 
-    other : (l.stop ≡ FullStop → ⊥) → ⊥
+    other : (why ≡ FullStop → ⊥) → ⊥
     other f = ends_never 0 used others ends (subst (HasNoStop 0) e (h.no_stop f))
 
-    by : (s : TokensEnd) → l.stop ≡ s → (others ≡ []) × (l.stop ≡ FullStop)
+    by : (s : TokensEnd) → why ≡ s → (others ≡ []) × (why ≡ FullStop)
     by FullStop f = (ends_all 0 used others ends (subst (EndsAtStop 0) e (h.stop f).0), f)
     by End f = absurd (other (λ g. let k : End ≡ FullStop = sym f ∙ g in cc))
     by Bad f = absurd (other (λ g. let k : Bad ≡ FullStop = sym f ∙ g in cc))
 
   -- every item that the bytes begin with is spelled by all the tokens, and what stands after it
   -- was not read
-  item_all : (item : Item) (rest : Bytes) → BeginsWithItem (drop at bytes) item rest → IsItem item (tokens_of l.tokens.items) × (rest ≡ drop l.end bytes)
+  item_all : (item : Item) (rest : Bytes) → BeginsWithItem (drop at bytes) item rest → IsItem item (tokens_of tokens) × (rest ≡ drop end bytes)
   item_all item rest b =
       let k = h.every b.tokens rest b.begins b.nested (ends_goes 0 b.tokens (item_stops item b.tokens b.spelled)) in
       let w = whole_item item b.tokens k.0 k.1 b.spelled in
-      let same : tokens_of l.tokens.items ≡ b.tokens = k.1 ∙ ap (λ x. b.tokens ++ x) w.0 ∙ append-nil b.tokens in (
+      let same : tokens_of tokens ≡ b.tokens = k.1 ∙ ap (λ x. b.tokens ++ x) w.0 ∙ append-nil b.tokens in (
         subst (IsItem item) (sym same) b.spelled,
-        begins_unique b.tokens (drop at bytes) rest (drop l.end bytes) b.begins (subst (λ ts. Begins (drop at bytes) ts (drop l.end bytes)) same (subst (Begins (drop at bytes) (tokens_of l.tokens.items)) (h.stop w.1).1 h.read.begins)),
+        begins_unique b.tokens (drop at bytes) rest (drop end bytes) b.begins (subst (λ ts. Begins (drop at bytes) ts (drop end bytes)) same (subst (Begins (drop at bytes) (tokens_of tokens)) (h.stop w.1).1 h.read.begins)),
       )
 
   -- what all the tokens spell is the item that the bytes begin with, if they spell no other
-  pub item_read : (item : Item) (used others : List Token) → tokens_of l.tokens.items ≡ used ++ others → IsItem item used → ((other : Item) → IsItem other (tokens_of l.tokens.items) → other ≡ item)
-      → IsItemRead bytes at item l.end
+  pub item_read : (item : Item) (used others : List Token) → tokens_of tokens ≡ used ++ others → IsItem item used → ((other : Item) → IsItem other (tokens_of tokens) → other ≡ item)
+      → IsItemRead bytes at item end
   item_read item used others e is unique =
       let w = whole_item item used others e is in
-      let same : tokens_of l.tokens.items ≡ used = e ∙ ap (λ x. used ++ x) w.0 ∙ append-nil used in
+      let same : tokens_of tokens ≡ used = e ∙ ap (λ x. used ++ x) w.0 ∙ append-nil used in
       let from = h.read.from in
       let onward = h.read.onward in
       record {
         from = omega arith;
         within = h.read.within;
         begins = record {
-          tokens = tokens_of l.tokens.items;
-          begins = subst (Begins (drop at bytes) (tokens_of l.tokens.items)) (h.stop w.1).1 h.read.begins;
+          tokens = tokens_of tokens;
+          begins = subst (Begins (drop at bytes) (tokens_of tokens)) (h.stop w.1).1 h.read.begins;
           spelled = subst (IsItem item) (sym same) is;
           nested = h.read.nested;
         };
@@ -124,13 +124,13 @@ module _ (bytes : Bytes) (at : ℕ) (l : Lexing) (h : IsItemLexing bytes at l) w
 
   -- ---- faults
   -- are those of another language exactly where the bytes begin so
-  foreign_begins : AreForeign (tokens_of l.tokens.items) → IsForeign (drop at bytes)
+  foreign_begins : AreForeign (tokens_of tokens) → IsForeign (drop at bytes)
   foreign_begins f =
-      let w = foreign_front (tokens_of l.tokens.items) f in
+      let w = foreign_front (tokens_of tokens) f in
       let s = begins_split (lower w.0 ∷ left_bracket ∷ []) w.1 (drop at bytes) h.rest (subst (λ ts. Begins (drop at bytes) ts h.rest) w.3 h.read.begins) in
       (w.0, s.0, w.2, s.1)
 
-  foreign_tokens : IsForeign (drop at bytes) → AreForeign (tokens_of l.tokens.items)
+  foreign_tokens : IsForeign (drop at bytes) → AreForeign (tokens_of tokens)
   foreign_tokens f =
       let k = h.every (lower f.0 ∷ left_bracket ∷ []) f.1 f.3 (omega arith) goes in
       subst AreForeign (sym k.1) ((refl, f.2), refl) where
@@ -141,59 +141,59 @@ module _ (bytes : Bytes) (at : ℕ) (l : Lexing) (h : IsItemLexing bytes at l) w
         goes = (λ s. absurd (word_on f.0 s.1), (λ s. refl, tt))
 
   -- where no item was read of the tokens, no item begins
-  module _ (no_clause : ReadsTokens IsClause Anything (tokens_of l.tokens.items) None) (no_include : ReadsTokens IsInclude Anything (tokens_of l.tokens.items) None) where
+  module _ (no_clause : ReadsTokens IsClause Anything (tokens_of tokens) None) (no_include : ReadsTokens IsInclude Anything (tokens_of tokens) None) where
     none_begins : (item : Item) (rest : Bytes) → BeginsWithItem (drop at bytes) item rest → ⊥
     none_begins (clause_item c) rest b =
-        let k = item_all (clause_item c) rest b in parses_never no_clause c (tokens_of l.tokens.items) [] (sym (append-nil (tokens_of l.tokens.items))) k.0 tt
+        let k = item_all (clause_item c) rest b in parses_never no_clause c (tokens_of tokens) [] (sym (append-nil (tokens_of tokens))) k.0 tt
     none_begins (include_item file s) rest b =
-        let k = item_all (include_item file s) rest b in parses_never no_include (file, s) (tokens_of l.tokens.items) [] (sym (append-nil (tokens_of l.tokens.items))) k.0 tt
+        let k = item_all (include_item file s) rest b in parses_never no_include (file, s) (tokens_of tokens) [] (sym (append-nil (tokens_of tokens))) k.0 tt
 
     -- and it is a fault, unless nothing but blanks stands there
-    pub fault_read : (AreBlanks (drop at bytes) → ⊥) → (result : Read) → IsFaultAt (tokens_of l.tokens.items) l.start result → IsRead bytes at result
+    pub fault_read : (AreBlanks (drop at bytes) → ⊥) → (result : Read) → IsFaultAt (tokens_of tokens) start result → IsRead bytes at result
     fault_read more (read.Syntax other) f =
         subst (λ n. IsFault bytes at n × (IsForeign (drop at bytes) → ⊥)) (sym f.0) (fault, λ g. f.1 (foreign_tokens g)) where
-          onward : l.start ≤ length bytes
+          onward : start ≤ length bytes
           onward = let a = h.read.onward in let b = h.read.within in omega arith
 
-          fault : IsFault bytes at l.start
-          fault = record { from = h.read.from; within = onward; faulty = record { more = more; no_item = none_begins }; behind = first_place bytes at l.start h.read.first more }
+          fault : IsFault bytes at start
+          fault = record { from = h.read.from; within = onward; faulty = record { more = more; no_item = none_begins }; behind = first_place bytes at start h.read.first more }
     fault_read more (read.Language other) f =
         subst (λ n. IsFault bytes at n × IsForeign (drop at bytes)) (sym f.0) (fault, foreign_begins f.1) where
-          onward : l.start ≤ length bytes
+          onward : start ≤ length bytes
           onward = let a = h.read.onward in let b = h.read.within in omega arith
 
-          fault : IsFault bytes at l.start
-          fault = record { from = h.read.from; within = onward; faulty = record { more = more; no_item = none_begins }; behind = first_place bytes at l.start h.read.first more }
+          fault : IsFault bytes at start
+          fault = record { from = h.read.from; within = onward; faulty = record { more = more; no_item = none_begins }; behind = first_place bytes at start h.read.first more }
     fault_read more (read.Cnf c end) f = absurd f
     fault_read more (read.Include file s end) f = absurd f
     fault_read more read.End f = absurd f
 
   -- something stands there where a token does
-  pub more_tokens : (l.tokens.items ≡ [] → ⊥) → AreBlanks (drop at bytes) → ⊥
-  more_tokens some blanks = by l.tokens.items some h.read.begins where
+  pub more_tokens : (tokens ≡ [] → ⊥) → AreBlanks (drop at bytes) → ⊥
+  more_tokens some blanks = by tokens some h.read.begins where
     by : (ts : List Lexeme) → (ts ≡ [] → ⊥) → Begins (drop at bytes) (tokens_of ts) h.rest → ⊥
     by [] some g = some refl
     by (t ∷ ts) some g = blanks_none (drop at bytes) blanks (token_of t) g.0 g.1
 
   -- nothing but blanks where there are no tokens up to the end
-  pub end_read : l.stop ≡ End → l.tokens.items ≡ [] → AreBlanks (drop at bytes)
+  pub end_read : why ≡ End → tokens ≡ [] → AreBlanks (drop at bytes)
   end_read e none = subst AreBlanks (sym (subst (λ (ts : List Lexeme). Begins (drop at bytes) (tokens_of ts) h.rest) none h.read.begins)) (h.read.blanks e)
 
 -- where no item was read
-pub no_item_read : (bytes : Bytes) (at : ℕ) (l : Lexing) (h : IsItemLexing bytes at l) → ReadsTokens IsClause Anything (tokens_of l.tokens.items) None → ReadsTokens IsInclude Anything (tokens_of l.tokens.items) None
-    → (result : Read) → IsNoItem (tokens_of l.tokens.items) l.start l.stop result → IsRead bytes at result
-no_item_read bytes at l h p q result f = by l.tokens.items refl l.stop refl f where
-  fault : (AreBlanks (drop at bytes) → ⊥) → IsFaultAt (tokens_of l.tokens.items) l.start result → IsRead bytes at result
-  fault more g = fault_read bytes at l h p q more result g
+pub no_item_read : (bytes : Bytes) (at : ℕ) (tokens : List Lexeme) (start end : ℕ) (why : TokensEnd) (h : AreItemTokens bytes at tokens start end why) → ReadsTokens IsClause Anything (tokens_of tokens) None → ReadsTokens IsInclude Anything (tokens_of tokens) None
+    → (result : Read) → IsNoItem (tokens_of tokens) start why result → IsRead bytes at result
+no_item_read bytes at tokens start end why h p q result f = by tokens refl why refl f where
+  fault : (AreBlanks (drop at bytes) → ⊥) → IsFaultAt (tokens_of tokens) start result → IsRead bytes at result
+  fault more g = fault_read bytes at tokens start end why h p q more result g
 
-  other : (s : TokensEnd) → l.stop ≡ s → (s ≡ End → ⊥) → l.stop ≡ End → ⊥
+  other : (s : TokensEnd) → why ≡ s → (s ≡ End → ⊥) → why ≡ End → ⊥
   other s e g k = g (sym e ∙ k)
 
-  by : (ts : List Lexeme) → l.tokens.items ≡ ts → (s : TokensEnd) → l.stop ≡ s → IsNoItem (tokens_of ts) l.start s result → IsRead bytes at result
-  by [] e End k g = subst (IsRead bytes at) (sym g) (end_read bytes at l h k e)
-  by [] e Bad k g = fault (h.read.faulty (other Bad k (λ j. cc))) (subst (λ ts. IsFaultAt (tokens_of ts) l.start result) (sym e) g)
-  by [] e FullStop k g = fault (h.read.faulty (other FullStop k (λ j. cc))) (subst (λ ts. IsFaultAt (tokens_of ts) l.start result) (sym e) g)
-  by (t ∷ ts) e s k g = fault (more_tokens bytes at l h (λ j. some (sym e ∙ j))) (subst (λ us. IsFaultAt (tokens_of us) l.start result) (sym e) g) where
+  by : (ts : List Lexeme) → tokens ≡ ts → (s : TokensEnd) → why ≡ s → IsNoItem (tokens_of ts) start s result → IsRead bytes at result
+  by [] e End k g = subst (IsRead bytes at) (sym g) (end_read bytes at tokens start end why h k e)
+  by [] e Bad k g = fault (h.read.faulty (other Bad k (λ j. cc))) (subst (λ ts. IsFaultAt (tokens_of ts) start result) (sym e) g)
+  by [] e FullStop k g = fault (h.read.faulty (other FullStop k (λ j. cc))) (subst (λ ts. IsFaultAt (tokens_of ts) start result) (sym e) g)
+  by (t ∷ ts) e s k g = fault (more_tokens bytes at tokens start end why h (λ j. some (sym e ∙ j))) (subst (λ us. IsFaultAt (tokens_of us) start result) (sym e) g) where
     some : t ∷ ts ≡ [] → ⊥
     some j = cc
 
@@ -205,32 +205,32 @@ clause_no_include c file s ts (name, formula, extra, is_name, is_formula, is_ext
     let texts : Rattle.std.specs.Prelude.codes "cnf" ≡ Rattle.std.specs.Prelude.codes "include" = ap (λ (t : Token). t.text) words in
     absurd (omega (arith, ap length texts))
 
-module _ (bytes : Bytes) (at : ℕ) (l : Lexing) (h : IsItemLexing bytes at l) where
+module _ (bytes : Bytes) (at : ℕ) (tokens : List Lexeme) (start end : ℕ) (why : TokensEnd) (h : AreItemTokens bytes at tokens start end why) where
   -- the clause that was read of the tokens is the item
-  pub clause_read : (c : Clause) (rest : List Token) → ReadsTokens IsClause Anything (tokens_of l.tokens.items) (Some (c, rest)) → IsItemRead bytes at (clause_item c) l.end
+  pub clause_read : (c : Clause) (rest : List Token) → ReadsTokens IsClause Anything (tokens_of tokens) (Some (c, rest)) → IsItemRead bytes at (clause_item c) end
   clause_read c rest p =
       let k = parses_uses c rest p in
-      item_read bytes at l h (clause_item c) k.0 rest k.1 k.2 (λ other is. unique other is) where
-        unique : (other : Item) → IsItem other (tokens_of l.tokens.items) → other ≡ clause_item c
-        unique (clause_item d) is = ap clause_item (sym (parses_one p d (tokens_of l.tokens.items) [] (sym (append-nil (tokens_of l.tokens.items))) is tt).0)
+      item_read bytes at tokens start end why h (clause_item c) k.0 rest k.1 k.2 (λ other is. unique other is) where
+        unique : (other : Item) → IsItem other (tokens_of tokens) → other ≡ clause_item c
+        unique (clause_item d) is = ap clause_item (sym (parses_one p d (tokens_of tokens) [] (sym (append-nil (tokens_of tokens))) is tt).0)
         unique (include_item file s) is =
             let k = parses_uses c rest p in
-            let w = whole_item bytes at l h (clause_item c) k.0 rest k.1 k.2 in
-            absurd (clause_no_include c file s (tokens_of l.tokens.items) (subst (IsItem (clause_item c)) (sym (k.1 ∙ ap (λ x. k.0 ++ x) w.0 ∙ append-nil k.0)) k.2) is)
+            let w = whole_item bytes at tokens start end why h (clause_item c) k.0 rest k.1 k.2 in
+            absurd (clause_no_include c file s (tokens_of tokens) (subst (IsItem (clause_item c)) (sym (k.1 ∙ ap (λ x. k.0 ++ x) w.0 ∙ append-nil k.0)) k.2) is)
 
   -- and so is the include
-  pub include_read : (i : Bytes × Selection) (rest : List Token) → ReadsTokens IsInclude Anything (tokens_of l.tokens.items) (Some (i, rest)) → IsItemRead bytes at (include_item i.0 i.1) l.end
+  pub include_read : (i : Bytes × Selection) (rest : List Token) → ReadsTokens IsInclude Anything (tokens_of tokens) (Some (i, rest)) → IsItemRead bytes at (include_item i.0 i.1) end
   include_read i rest p =
       let k = parses_uses i rest p in
-      item_read bytes at l h (include_item i.0 i.1) k.0 rest k.1 k.2 (λ other is. unique other is) where
-        unique : (other : Item) → IsItem other (tokens_of l.tokens.items) → other ≡ include_item i.0 i.1
+      item_read bytes at tokens start end why h (include_item i.0 i.1) k.0 rest k.1 k.2 (λ other is. unique other is) where
+        unique : (other : Item) → IsItem other (tokens_of tokens) → other ≡ include_item i.0 i.1
         unique (include_item file s) is =
-            let same = (parses_one p (file, s) (tokens_of l.tokens.items) [] (sym (append-nil (tokens_of l.tokens.items))) is tt).0 in
+            let same = (parses_one p (file, s) (tokens_of tokens) [] (sym (append-nil (tokens_of tokens))) is tt).0 in
             λ j. include_item (sym same j).0 (sym same j).1
         unique (clause_item c) is =
             let k = parses_uses i rest p in
-            let w = whole_item bytes at l h (include_item i.0 i.1) k.0 rest k.1 k.2 in
-            absurd (clause_no_include c i.0 i.1 (tokens_of l.tokens.items) is (subst (IsItem (include_item i.0 i.1)) (sym (k.1 ∙ ap (λ x. k.0 ++ x) w.0 ∙ append-nil k.0)) k.2))
+            let w = whole_item bytes at tokens start end why h (include_item i.0 i.1) k.0 rest k.1 k.2 in
+            absurd (clause_no_include c i.0 i.1 (tokens_of tokens) is (subst (IsItem (include_item i.0 i.1)) (sym (k.1 ∙ ap (λ x. k.0 ++ x) w.0 ∙ append-nil k.0)) k.2))
 
 -- ---- whole texts
 module _ {X M : Type 0} (view : X → M) (Means : M → List Token → Type 0) (bytes : Bytes) (l : Lexing) (h : IsLexing bytes 0 l) where

@@ -1,52 +1,70 @@
-use Rattle.std.proofs.Common.{◌+◌, ◌≤◌, length, true, IsTrue, inl, inr, refl, sym, ◌∙◌, subst, subst₂}
+use Rattle.std.proofs.Common.{◌≡◌, ◌∷◌, ◌++◌, [], ◌+◌, ◌≤◌, ◌⊎◌, ◌||◌, length, true, false, IsTrue, inl, inr, refl, sym, ap, ◌∙◌, subst, arith}
 use Rattle.std.proofs.lemmas.Bool.{false≢true}
+use Rattle.si_defs.specs.Grammar.{open_behind}
 use Rattle.si_defs.specs.declared.TheConstants.{DEEPEST_NESTING}
+use Rattle.si_lex.specs.Annotations.{BeginsClause}
 use Rattle.si_lex.specs.FullStops.{IsStop}
-use Rattle.si_lex.specs.Lexemes.{token_of}
-use Rattle.si_lex.specs.Lexing.{IsLexingUpTo}
+use Rattle.si_lex.specs.Lexemes.{token_of, tokens_of}
 use Rattle.si_lex.specs.declared.lexing.Lexing.{Lexing}
 use Rattle.si_lex.specs.declared.lexing.TokensEnd.TheVariants.{End, Bad, FullStop}
 use Rattle.si_term.proofs.Results.{on_err}
-use Rattle.si_lex.proofs.LexingLaws.{IsSoFar, so_far_more, so_far_some, lexing_end, lexing_bad, lexing_stop}
+use Rattle.si_lex.proofs.LexingLaws.{so_far_some}
+use Rattle.si_lex.proofs.BriefLaws.{IsKept, kept_none, kept_more, kept_past, brief_end, brief_bad, brief_stop}
 use Rattle.si_lex.proofs.lexing.lex_up_to.Goals as goal
+use Rattle.si_lex.proofs.lexing.lex_up_to.Goals.{then-noted, else-noted}
+
+pub loop-place-init : goal.loop-place-init
+loop-place-init c =
+    kept_none c.args.item c.args.bytes.now c.args.at c.skip_blanks-start.result c.in_ok-tokens.tokens.items c.in_ok-tokens.ensures.empty c.skip_blanks-start.ensures.from c.skip_blanks-start.ensures.behind
 
 pub returns-in_default-clause-read : goal.returns-in_default-clause-read
 returns-in_default-clause-read c =
     let l : Lexing = record { tokens = c.loop-place.tokens; start = c.skip_blanks-start.result; end = c.loop-place.place; stop = Bad } in
-    lexing_bad c.args.item c.args.bytes.now c.args.at l c.loop-place.depth c.loop-place.invariant c.loop-place-test.true c.in_default.ensures refl
+    brief_bad c.args.item c.loop-place.noted c.args.bytes.now c.args.at l c.loop-place.depth c.loop-place.invariant c.loop-place-test.true c.in_default.ensures refl
 
 pub returns-clause-read : goal.returns-clause-read
 returns-clause-read c =
     let l : Lexing = record { tokens = c.loop-place.tokens; start = c.skip_blanks-start.result; end = c.loop-place.place; stop = End } in
-    lexing_end c.args.item c.args.bytes.now c.args.at l c.loop-place.depth c.loop-place.invariant c.loop-place-test.false refl
+    brief_end c.args.item c.loop-place.noted c.args.bytes.now c.args.at l c.loop-place.depth c.loop-place.invariant c.loop-place-test.false refl
 
 pub returns-then-stops-clause-read : goal.returns-then-stops-clause-read
 returns-then-stops-clause-read c =
-    let bytes = c.args.bytes.now in
-    let start = c.skip_blanks-start.result in
-    let l : Lexing = record { tokens = c.push.new.self; start = start; end = c.loop-place.place + length c.in-Some.lexeme.spelling.now; stop = FullStop } in
-    let before : IsSoFar true bytes c.args.at start c.loop-place.tokens.items c.loop-place.depth c.loop-place.place =
-    subst (λ item. IsSoFar item bytes c.args.at start c.loop-place.tokens.items c.loop-place.depth c.loop-place.place) c.if-item.true c.loop-place.invariant in
-    subst (λ item. IsLexingUpTo item bytes c.args.at l) (sym c.if-item.true)
-    (lexing_stop bytes c.args.at l c.loop-place.tokens.items c.loop-place.depth c.loop-place.place c.in-Some.lexeme before c.loop-place-test.true c.in-Some.ensures.stands
-    (subst (λ d. d ≤ DEEPEST_NESTING) c.in-Some.ensures.opened c.in-Some.ensures.shallow) (c.is_stop-stops.ensures.0 c.if-stops.true)
-    c.in_ok-push.ensures.items refl refl)
+    let l : Lexing = record { tokens = c.push-in-loop-place.new.self; start = c.skip_blanks-start.result; end = c.loop-place.place + length c.in-Some.lexeme.spelling.now; stop = FullStop } in
+    brief_stop c.args.item c.loop-place.noted c.args.bytes.now c.args.at l c.loop-place.tokens.items c.loop-place.depth c.loop-place.place c.in-Some.lexeme c.loop-place.invariant c.if-item.true
+    c.loop-place-test.true c.in-Some.ensures.stands (subst (λ d. d ≤ DEEPEST_NESTING) c.in-Some.ensures.opened c.in-Some.ensures.shallow) (c.is_stop-stops.ensures.0 c.if-stops.true)
+    c.in_ok-push-2.ensures.items refl refl
+
+pub loop-place-preserved-in-Some-past_annotations : goal.loop-place-preserved-in-Some-past_annotations
+loop-place-preserved-in-Some-past_annotations c =
+    let comma = c.ends_formula-comma.ensures.0 c.if-comma.true in
+    subst (λ ts. IsKept c.args.item true c.args.bytes.now c.args.at c.skip_blanks-start.result ts 0 c.skip_blanks-place.result) (sym c.in_ok-push.ensures.items)
+    (kept_past c.args.item c.loop-place.noted c.args.bytes.now c.args.at c.skip_blanks-start.result c.loop-place.tokens.items c.loop-place.depth c.loop-place.place c.loop-place.invariant
+    c.loop-place-test.true c.in-Some.lexeme c.in-Some.ensures.stands c.in-Some-past_annotations.bracket c.in-Some-past_annotations.after c.skip_blanks-place.result c.if-not-noted.true comma.1 (omega (arith, c.len.ensures, comma.0))
+    (subst (λ ts. BeginsClause (tokens_of ts)) c.as_slice.ensures.value c.in-Some-past_annotations.ensures.0) c.in-Some-past_annotations.ensures.1 c.skip_blanks-place.ensures.from c.skip_blanks-place.ensures.behind)
 
 pub loop-place-preserved : goal.loop-place-preserved
 loop-place-preserved c =
     let bytes = c.args.bytes.now in
     let start = c.skip_blanks-start.result in
     let lexeme = c.in-Some.lexeme in
+    let comma = c.ends_formula-comma.result in
     let goes_on : IsTrue c.args.item → IsStop c.loop-place.depth (token_of lexeme) → ⊥ =
     λ i s. elim c.else-item.either [ inl e ↦ false≢true (sym e.1 ∙ c.is_stop-stops.ensures.1 s) | inr e ↦ false≢true (sym e ∙ i) ] in
     let more =
-    so_far_more c.args.item bytes c.args.at start c.loop-place.tokens.items c.loop-place.depth c.loop-place.place c.skip_blanks-place.result lexeme
-    c.loop-place.invariant c.loop-place-test.true c.in-Some.ensures.stands (subst (λ d. d ≤ DEEPEST_NESTING) c.in-Some.ensures.opened c.in-Some.ensures.shallow)
-    goes_on c.skip_blanks-place.ensures.from c.skip_blanks-place.ensures.behind in
-    subst₂ (λ ts d. IsSoFar c.args.item bytes c.args.at start ts d c.skip_blanks-place.result) (sym c.in_ok-push.ensures.items) (sym c.in-Some.ensures.opened) more
+    kept_more c.args.item c.loop-place.noted bytes c.args.at start c.loop-place.tokens.items c.loop-place.depth c.loop-place.place c.loop-place.invariant c.loop-place-test.true lexeme
+    c.in-Some.ensures.stands comma c.skip_blanks-place-in-loop-place.result (λ six is. c.ends_formula-comma.ensures.1 (omega (arith, c.len.ensures, six), is))
+    (subst (λ d. d ≤ DEEPEST_NESTING) c.in-Some.ensures.opened c.in-Some.ensures.shallow) goes_on c.skip_blanks-place-in-loop-place.ensures.from c.skip_blanks-place-in-loop-place.ensures.behind in
+    let noted : (c.loop-place.noted || comma) ≡ c.if-noted.noted =
+    elim c.if-noted.branch [
+      | then-noted w ↦ ap (λ x. x || comma) w.if-noted.true ∙ sym w.if-noted.true ∙ sym w.noted-is
+      | else-noted w ↦ ap (λ x. x || comma) w.if-noted.false ∙ sym w.noted-is
+    ] in
+    subst (λ n. IsKept c.args.item n bytes c.args.at start c.push-in-loop-place.new.self.items c.in-Some.behind c.skip_blanks-place-in-loop-place.result) noted
+    (subst (λ ts. IsKept c.args.item (c.loop-place.noted || comma) bytes c.args.at start ts c.in-Some.behind c.skip_blanks-place-in-loop-place.result) (sym c.in_ok-push-2.ensures.items)
+    (subst (λ d. IsKept c.args.item (c.loop-place.noted || comma) bytes c.args.at start (c.loop-place.tokens.items ++ lexeme ∷ []) d c.skip_blanks-place-in-loop-place.result) (sym c.in-Some.ensures.opened) more))
 
 pub returns-in_err-push-clause-refused : goal.returns-in_err-push-clause-refused
 returns-in_err-push-clause-refused c =
     on_err c.from_residual-in_err-push.result
-    (so_far_some c.args.item c.args.bytes.now c.args.at c.skip_blanks-start.result c.loop-place.tokens.items c.loop-place.depth c.loop-place.place c.in-Some.lexeme
-    c.loop-place.invariant c.loop-place-test.true c.in-Some.ensures.stands)
+    (so_far_some c.args.item c.args.bytes.now c.args.at c.skip_blanks-start.result c.loop-place.invariant.all c.loop-place.depth c.loop-place.place c.in-Some.lexeme c.loop-place.invariant.so_far
+    c.loop-place-test.true c.in-Some.ensures.stands)

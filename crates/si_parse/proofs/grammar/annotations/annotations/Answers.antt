@@ -3,10 +3,11 @@ use Rattle.std.specs.Option.{option_map}
 use Rattle.si_defs.specs.Grammar.{closing_of, right_bracket}
 use Rattle.si_lex.specs.Lexemes.{token_of, tokens_of}
 use Rattle.si_lex.specs.declared.lexeme.Lexeme.{Lexeme}
+use Rattle.si_lex.proofs.BracketLaws.{open_after, open_more}
 use Rattle.si_parse.specs.Brackets.{pending_of, IsTurn}
 use Rattle.si_parse.proofs.ParseSteps.{parses_at}
 use Rattle.si_parse.proofs.ParseReads.{token_at, tokens_more, tokens_split, tokens_all, some_before}
-use Rattle.si_parse.proofs.GrammarNotes.{open_after, open_more, annotations_some, annotations_empty, annotations_fail, annotations_open, right_closes}
+use Rattle.si_parse.proofs.GrammarNotes.{annotations_some, annotations_empty, annotations_fail, annotations_open, right_closes}
 use Rattle.si_parse.proofs.grammar.annotations.annotations.Goals as goal
 use Rattle.si_parse.proofs.grammar.annotations.annotations.Goals.{then-n-eq0, else-n-eq0}
 

@@ -1,7 +1,7 @@
 use Rattle.std.proofs.Common.{◌≡◌, [], take, Some}
 use Rattle.si_lex.specs.Lexemes.{tokens_of}
 use Rattle.si_parse.specs.Brackets.{pending_of}
-use Rattle.si_parse.proofs.GrammarNotes.{open_after}
+use Rattle.si_lex.proofs.BracketLaws.{open_after}
 use Rattle.si_parse.proofs.grammar.annotations.annotations.Given as goal
 
 -- the brackets that are open after the tokens so far

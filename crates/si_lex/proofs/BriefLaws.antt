@@ -119,8 +119,12 @@ module _ (item noted : Bool) (bytes : Bytes) (at start : ℕ) (tokens : List Lex
         ⊎ (IsTrue item × ((noted || is_comma) ≡ true) × LeavesOut (tokens_of (s.all ++ l ∷ [])) (tokens_of (tokens ++ l ∷ [])))
     by (inl (same, none)) = inl (ap (λ x. x ++ l ∷ []) same, none_yet same none)
     by (inr (i, n, out)) =
-        inr (i, or_true noted is_comma n, subst (λ x. LeavesOut x (tokens_of (tokens ++ l ∷ []))) (sym (map_push token_of s.all l))
-        (subst (λ x. LeavesOut (tokens_of s.all ++ token_of l ∷ []) x) (sym (map_push token_of tokens l)) (leaves_more (tokens_of s.all) (tokens_of tokens) (token_of l) out)))
+        inr (
+          i,
+          or_true noted is_comma n,
+          subst (λ x. LeavesOut x (tokens_of (tokens ++ l ∷ []))) (sym (map_push token_of s.all l))
+              (subst (λ x. LeavesOut (tokens_of s.all ++ token_of l ∷ []) x) (sym (map_push token_of tokens l)) (leaves_more (tokens_of s.all) (tokens_of tokens) (token_of l) out)),
+        )
 
   -- annotations after it, up to and with the bracket that closes the clause
   pub kept_past : (bracket : Lexeme) (end next : ℕ) → noted ≡ false → IsComma depth (token_of l) → 6 ≤ length tokens → BeginsClause (tokens_of tokens)
@@ -180,20 +184,24 @@ module _ (item noted : Bool) (bytes : Bytes) (at start : ℕ) (tokens : List Lex
       so_far = so_far;
       wanted = λ e. s.wanted first;
       kept =
-          inr (s.wanted first, refl, record {
-            front = tokens_of s.all;
-            notes = notes;
-            rest = [];
-            word = subst (λ x. BeginsClause (tokens_of x)) (sym same) word;
-            long = omega (arith, six, length-map s.all token_of, ap length same);
-            depth = sym far.opened;
-            no_comma = none first;
-            no_stop = far.no_stop (s.wanted first);
-            some = p.some;
-            balanced = p.balanced;
-            whole = map-append token_of s.all extra ∙ ap (λ x. tokens_of s.all ++ x) spelled ∙ sym (append_assoc (tokens_of s.all) (comma ∷ notes) (right_bracket ∷ []));
-            without = map_push token_of tokens bracket ∙ ap (λ x. tokens_of x ++ token_of bracket ∷ []) (sym same) ∙ ap (λ x. tokens_of s.all ++ x ∷ []) p.closes;
-          });
+          inr (
+            s.wanted first,
+            refl,
+            record {
+              front = tokens_of s.all;
+              notes = notes;
+              rest = [];
+              word = subst (λ x. BeginsClause (tokens_of x)) (sym same) word;
+              long = omega (arith, six, length-map s.all token_of, ap length same);
+              depth = sym far.opened;
+              no_comma = none first;
+              no_stop = far.no_stop (s.wanted first);
+              some = p.some;
+              balanced = p.balanced;
+              whole = map-append token_of s.all extra ∙ ap (λ x. tokens_of s.all ++ x) spelled ∙ sym (append_assoc (tokens_of s.all) (comma ∷ notes) (right_bracket ∷ []));
+              without = map_push token_of tokens bracket ∙ ap (λ x. tokens_of x ++ token_of bracket ∷ []) (sym same) ∙ ap (λ x. tokens_of s.all ++ x ∷ []) p.closes;
+            },
+          );
     }
 
 -- ---- where they stop
@@ -234,5 +242,8 @@ module _ (item noted : Bool) (bytes : Bytes) (at : ℕ) (l : Lexing) where
             → (s.all ++ t ∷ [] ≡ l.tokens.items) ⊎ (IsTrue item × LeavesOut (tokens_of (s.all ++ t ∷ [])) (tokens_of l.tokens.items))
         by (inl same) = inl (ap (λ x. x ++ t ∷ []) same ∙ sym items)
         by (inr (i, out)) =
-            inr (i, subst (λ x. LeavesOut x (tokens_of l.tokens.items)) (sym (map_push token_of s.all t))
-            (subst (λ x. LeavesOut (tokens_of s.all ++ token_of t ∷ []) x) (sym (ap tokens_of items ∙ map_push token_of tokens t)) (leaves_more (tokens_of s.all) (tokens_of tokens) (token_of t) out)))
+            inr (
+              i,
+              subst (λ x. LeavesOut x (tokens_of l.tokens.items)) (sym (map_push token_of s.all t))
+                  (subst (λ x. LeavesOut (tokens_of s.all ++ token_of t ∷ []) x) (sym (ap tokens_of items ∙ map_push token_of tokens t)) (leaves_more (tokens_of s.all) (tokens_of tokens) (token_of t) out)),
+            )

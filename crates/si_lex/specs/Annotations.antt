@@ -67,7 +67,8 @@ Encodes n (neither ∷ bs) = ⊥
 abbrev pub IsNextNumber : ℕ → ℕ → ℕ → Type 0
 IsNextNumber byte n next = (stack : List Bracket) → Encodes n stack
     → ((stack ≡ []) × (byte ≡ 41) × (next ≡ 1))
-    ⊎ ((after : List Bracket) × (brackets_behind (mark byte) stack ≡ Some after) × Encodes next after)
+    ⊎ ((after : List Bracket) × (brackets_behind (mark byte) stack ≡ Some after)
+    × Encodes next after)
 
 -- ---- places
 -- annotations stand after the place, this bracket closes the clause after them, and here it ends

@@ -12,7 +12,7 @@ use crate::spellings::lexeme_at;
 /// end at a place, and the place after it.
 ///
 /// Nothing where the tokens begin no clause, where no annotations stand there or their brackets
-/// don't match, or where more than 60 are open at once.
+/// don't match, or where more than 61 are open at once.
 pub fn past_annotations<'a>(
     front: &[Lexeme],
     bytes: &'a [u8],

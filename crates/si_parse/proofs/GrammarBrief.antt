@@ -28,7 +28,7 @@ use Rattle.si_parse.specs.Parsing.{ReadsTokens, Anything}
 use Rattle.si_parse.specs.Reading.{AreForeign, IsFaultAt, IsNoItem}
 use Rattle.si_parse.specs.declared.item.Read.{Read}
 use Rattle.si_parse.specs.declared.item.Read.TheVariants as read
-use Rattle.si_parse.proofs.GrammarNotes.{Beside, beside}
+use Rattle.si_parse.proofs.GrammarNotes.{Beside, ends, goes_on, beside}
 use Rattle.si_parse.proofs.GrammarStops.{Flat, flat_depth, flat_at, flat_constant, flat_name, one_more, one_less, replicate_last}
 use Rattle.si_parse.proofs.GrammarTerms.{head_constant, marks_apart}
 
@@ -46,8 +46,8 @@ Calm ts = (d : ℕ) → IsInside (suc d) ts × (depth_from (suc d) ts ≡ suc d)
 abbrev Deep : List Token → Type 0
 Deep ts = (d : ℕ) → IsInside (suc (suc d)) ts × (depth_from (suc (suc d)) ts ≡ suc (suc d))
 
-calm_deep : {ts : List Token} → Calm ts → Deep ts
-calm_deep h d = h (suc d)
+calm_deep : (ts : List Token) → Calm ts → Deep ts
+calm_deep ts h d = h (suc d)
 
 -- ---- one after another
 inside_append : (d : ℕ) (ts us : List Token) → IsInside d ts → IsInside (depth_from d ts) us → IsInside d (ts ++ us)
@@ -148,7 +148,7 @@ plain_mark c f n = (f, marks_apart c 44 n)
 calm_applied : (kind : SymKind) (text : Bytes) (t : Token) (first others ts : List Token) → IsHead kind text t → Calm first → Deep others → ts ≡ t ∷ left_bracket ∷ first ++ others ++ right_bracket ∷ [] → Calm ts
 calm_applied kind text t first others ts head h k e =
     calm_at e (calm_plain t (left_bracket ∷ (first ++ others) ++ right_bracket ∷ []) (plain_constant kind text t (head_constant kind text t head))
-    (calm_round (first ++ others) (deep_append first others (calm_deep h) k)))
+    (calm_round (first ++ others) (deep_append first others (calm_deep first h) k)))
 
 mutual
   calm_term : (m : Term) (ts : List Token) → IsTerm m ts → Calm ts
@@ -160,7 +160,7 @@ mutual
   deep_more : (us : Terms) (ts : List Token) → AreMoreTerms us ts → Deep ts
   deep_more terms.none ts e = deep_at e deep_none
   deep_more (terms.more u us) ts (first, others, one, all, e) =
-      deep_at e (deep_flat comma (first ++ others) (refl, refl) (deep_append first others (calm_deep (calm_term u first one)) (deep_more us others all)))
+      deep_at e (deep_flat comma (first ++ others) (refl, refl) (deep_append first others (calm_deep first (calm_term u first one)) (deep_more us others all)))
 
 -- ---- literals and formulas
 calm_sides : (sign : Token) (s : Symbol) (l : Term) (us : Terms) (ts : List Token) → Plain sign → AreSides sign s l us ts → Calm ts
@@ -191,7 +191,7 @@ calm_signed : (positive : Bool) (m : Term) (ts : List Token) → IsSignedAtom po
 calm_signed true m ts h = calm_atom m ts h
 calm_signed false m ts (inl (us, h, e)) = calm_at e (calm_plain (mark 126) us plain_tilde (calm_atom m us h))
 calm_signed false m ts (inr (inl (us, h, e))) =
-    calm_at e (calm_plain (mark 126) (left_bracket ∷ us ++ right_bracket ∷ []) plain_tilde (calm_round us (calm_deep (calm_atom m us h))))
+    calm_at e (calm_plain (mark 126) (left_bracket ∷ us ++ right_bracket ∷ []) plain_tilde (calm_round us (calm_deep us (calm_atom m us h))))
 calm_signed false m ts (inr (inr h)) = calm_inequation m ts h
 
 calm_literals : (ls : List Literal) (ts : List Token) → AreMoreLiterals ls ts → Calm ts
@@ -208,7 +208,7 @@ calm_brackets zero ts h = calm_append ts [] h calm_none
 calm_brackets (suc n) ts h =
     calm_at (ap (λ x. left_bracket ∷ (replicate n left_bracket ++ ts) ++ x) (replicate_last n right_bracket)
     ∙ ap (λ x. left_bracket ∷ x) (sym (append_assoc (replicate n left_bracket ++ ts) (replicate n right_bracket) (right_bracket ∷ []))))
-    (calm_round ((replicate n left_bracket ++ ts) ++ replicate n right_bracket) (calm_deep (calm_brackets n ts h)))
+    (calm_round ((replicate n left_bracket ++ ts) ++ replicate n right_bracket) (calm_deep ((replicate n left_bracket ++ ts) ++ replicate n right_bracket) (calm_brackets n ts h)))
 
 calm_formula : (ls : List Literal) (ts : List Token) → IsFormula ls ts → Calm ts
 calm_formula ls ts (n, inner, h, e) = calm_at e (calm_brackets n inner (calm_disjunction ls inner h))
@@ -291,15 +291,15 @@ clause_order front formula extra rest =
     ∙ ap (λ x. front ++ x) (append_assoc (formula ++ extra) (right_bracket ∷ full_stop ∷ []) rest ∙ append_assoc formula extra (right_bracket ∷ full_stop ∷ rest))
 
 -- ---- clauses
-goes_on : (extra rest : List Token) → IsExtra extra → GoesOn (extra ++ right_bracket ∷ full_stop ∷ rest)
-goes_on [] rest h = inr (rest, refl)
-goes_on (t ∷ ts) rest h = inl (ts ++ right_bracket ∷ full_stop ∷ rest, ap (λ x. x ∷ ts ++ right_bracket ∷ full_stop ∷ rest) h.0)
+formula_ends : (extra rest : List Token) → IsExtra extra → GoesOn (extra ++ right_bracket ∷ full_stop ∷ rest)
+formula_ends [] rest h = inr (rest, refl)
+formula_ends (t ∷ ts) rest h = inl (ts ++ right_bracket ∷ full_stop ∷ rest, ap (λ x. x ∷ ts ++ right_bracket ∷ full_stop ∷ rest) h.0)
 
 same_notes : (notes rest behind : List Token) (ns : List Token) → IsTrue (balances ns []) → IsTrue (balances notes []) → ns ++ right_bracket ∷ rest ≡ notes ++ right_bracket ∷ behind → rest ≡ behind
 same_notes notes rest behind ns h k e = by (beside ns notes right_bracket [] [] rest behind (balanced_open ns [] h) (balanced_open notes [] k) e) where
   by : Beside ns notes right_bracket [] rest behind → rest ≡ behind
-  by (Beside.ends f g h k) = k
-  by (Beside.goes_on next f) = absurd (none-some next f)
+  by (ends f g h k) = k
+  by (goes_on next f) = absurd (none-some next f)
 
 module _ (ts left : List Token) (h : LeavesOut ts left) where
   -- a clause at the front of all tokens stands without its annotations at the front of the others
@@ -318,7 +318,7 @@ module _ (ts left : List Token) (h : LeavesOut ts left) where
     same =
         same_end 1 formula split.0 (extra ++ right_bracket ∷ full_stop ∷ rest) (comma ∷ (h.notes ++ right_bracket ∷ h.rest)) calm.0 calm.1
         (heading_comma c name is_name h.front split.0 split.1 h.no_comma) (heading_stop c name is_name h.front split.0 split.1 h.no_stop)
-        (heading_depth c name is_name h.front split.0 split.1 h.depth) (goes_on extra rest is_extra) (inl (h.notes ++ right_bracket ∷ h.rest, refl)) split.2
+        (heading_depth c name is_name h.front split.0 split.1 h.depth) (formula_ends extra rest is_extra) (inl (h.notes ++ right_bracket ∷ h.rest, refl)) split.2
 
     bare : List Token
     bare = heading name c.role ++ ((formula ++ []) ++ right_bracket ∷ full_stop ∷ [])
@@ -352,7 +352,7 @@ module _ (ts left : List Token) (h : LeavesOut ts left) where
     same : (formula ≡ split.0) × (extra ++ right_bracket ∷ full_stop ∷ rest ≡ right_bracket ∷ h.rest)
     same =
         same_end 1 formula split.0 (extra ++ right_bracket ∷ full_stop ∷ rest) (right_bracket ∷ h.rest) calm.0 calm.1 (heading_comma c name is_name h.front split.0 split.1 h.no_comma)
-        (heading_stop c name is_name h.front split.0 split.1 h.no_stop) (heading_depth c name is_name h.front split.0 split.1 h.depth) (goes_on extra rest is_extra) (inr (h.rest, refl)) split.2
+        (heading_stop c name is_name h.front split.0 split.1 h.no_stop) (heading_depth c name is_name h.front split.0 split.1 h.depth) (formula_ends extra rest is_extra) (inr (h.rest, refl)) split.2
 
     noted : List Token
     noted = heading name c.role ++ ((formula ++ comma ∷ h.notes) ++ right_bracket ∷ full_stop ∷ [])
@@ -401,7 +401,7 @@ module _ (ts left : List Token) (h : LeavesOut ts left) where
     every = λ i used rest e is any. absurd (no_include ts used rest i all_begin e is);
   }
 
-  first_byte : Bytes → ℕ
+  abbrev first_byte : Bytes → ℕ
   first_byte [] = 0
   first_byte (c ∷ cs) = c
 
@@ -439,13 +439,13 @@ left_fewer ts left h =
     omega (arith, ap length h.whole, ap length h.without, length-append (h.front ++ comma ∷ h.notes) (right_bracket ∷ h.rest), length-append h.front (comma ∷ h.notes), length-append h.front (right_bracket ∷ h.rest))
 
 -- ---- all tokens of an item, or without annotations
-module _ {all kept slice : List Lexeme} (h : (all ≡ kept) ⊎ LeavesOut (tokens_of all) (tokens_of kept)) where
-  pub few_of : length kept ≤ length all
-  few_of = by h where
-    by : (all ≡ kept) ⊎ LeavesOut (tokens_of all) (tokens_of kept) → length kept ≤ length all
-    by (inl e) = omega (arith, ap length e)
-    by (inr out) = omega (arith, left_fewer (tokens_of all) (tokens_of kept) out, length-map all token_of, length-map kept token_of)
+pub few_of : {all kept : List Lexeme} → (all ≡ kept) ⊎ LeavesOut (tokens_of all) (tokens_of kept) → length kept ≤ length all
+few_of {all = all} {kept = kept} h = by h where
+  by : (all ≡ kept) ⊎ LeavesOut (tokens_of all) (tokens_of kept) → length kept ≤ length all
+  by (inl e) = omega (arith, ap length e)
+  by (inr out) = omega (arith, left_fewer (tokens_of all) (tokens_of kept) out, length-map all token_of, length-map kept token_of)
 
+module _ {all kept slice : List Lexeme} (h : (all ≡ kept) ⊎ LeavesOut (tokens_of all) (tokens_of kept)) where
   pub clause_of_all : {result : Option (Clause × List Token)} → slice ≡ kept → ReadsTokens IsClause Anything (tokens_of slice) result → ReadsTokens IsClause Anything (tokens_of all) result
   clause_of_all {result = result} s p = by h where
     q : ReadsTokens IsClause Anything (tokens_of kept) result

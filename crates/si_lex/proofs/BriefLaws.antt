@@ -1,5 +1,5 @@
 -- The tokens of some bytes without annotations, one more at each step.
-use Rattle.std.proofs.Common.{◌≡◌, ℕ, zero, suc, ◌+◌, ◌<◌, ◌≤◌, Bool, true, false, not, ◌||◌, max, List, [], ◌∷◌, ◌++◌, length, drop, IsTrue, refl, ap, sym, ◌∙◌, subst, ◌⊎◌, inl, inr, append_assoc, arith}
+use Rattle.std.proofs.Common.{◌≡◌, ℕ, zero, suc, ◌+◌, ◌<◌, ◌≤◌, Bool, true, false, not, ◌||◌, List, [], ◌∷◌, ◌++◌, length, drop, IsTrue, refl, ap, sym, ◌∙◌, subst, ◌⊎◌, inl, inr, append_assoc, arith}
 use Rattle.std.proofs.lemmas.Bool.{false≢true}
 use Rattle.std.proofs.lemmas.List.{map_push, map-append, length-map}
 use Rattle.si_defs.specs.Bytes.{Bytes}
@@ -10,7 +10,7 @@ use Rattle.si_defs.proofs.TokenLaws.{begins_append}
 use Rattle.si_lex.specs.declared.lexeme.Lexeme.{Lexeme}
 use Rattle.si_lex.specs.declared.lexing.Lexing.{Lexing}
 use Rattle.si_lex.specs.declared.lexing.TokensEnd.TheVariants.{End, Bad, FullStop}
-use Rattle.si_lex.specs.Annotations.{IsComma, HasNoComma, BeginsClause, LeavesOut, IsBriefLexing, IsBriefUpTo, IsPastAnnotations}
+use Rattle.si_lex.specs.Annotations.{IsComma, HasNoComma, BeginsClause, LeavesOut, IsBriefUpTo, IsPastAnnotations}
 use Rattle.si_lex.specs.FullStops.{IsStop, HasNoStop, depth_from}
 use Rattle.si_lex.specs.Lexemes.{token_of, tokens_of}
 use Rattle.si_lex.specs.Lexing.{AreTokensUpTo}

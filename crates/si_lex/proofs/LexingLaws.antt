@@ -9,7 +9,6 @@ use Rattle.si_defs.specs.declared.TheConstants.{DEEPEST_NESTING}
 use Rattle.si_defs.specs.Texts.{IsPlace}
 use Rattle.si_defs.proofs.TokenLaws.{begins_append, begins_split}
 use Rattle.si_lex.specs.declared.lexeme.Lexeme.{Lexeme}
-use Rattle.si_lex.specs.declared.lexing.Lexing.{Lexing}
 use Rattle.si_lex.specs.declared.lexing.TokensEnd.{TokensEnd}
 use Rattle.si_lex.specs.declared.lexing.TokensEnd.TheVariants.{End, Bad, FullStop}
 use Rattle.si_lex.specs.Lexemes.{token_of, tokens_of}

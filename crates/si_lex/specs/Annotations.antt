@@ -1,5 +1,5 @@
 -- Annotations that are left out of the tokens of an item.
-use Rattle.std.specs.Prelude.{◌≡◌, ◌≢◌, ℕ, zero, suc, ◌+◌, ◌*◌, ◌≤◌, ◌<◌, ◌⊎◌, List, [], ◌∷◌, ◌++◌, length, drop, codes, IsTrue, Option, Some, Bool, true, false}
+use Rattle.std.specs.Prelude.{◌≡◌, ◌≢◌, ℕ, zero, suc, ◌+◌, ◌*◌, ◌≤◌, ◌⊎◌, List, [], ◌∷◌, ◌++◌, length, drop, codes, IsTrue, Some, Bool, true, false}
 use Rattle.si_defs.specs.Bytes.{Bytes}
 use Rattle.si_defs.specs.Tokens.{Token, NextToken, Begins, lower, mark}
 use Rattle.si_defs.specs.Grammar.{Bracket, round, square, neither, brackets_behind, balances, open_behind, nesting_from, comma, right_bracket}

@@ -43,6 +43,22 @@ pub struct Lexing<'a> {
     pub stop: TokensEnd,
 }
 
+impl<'a> Lexing<'a> {
+    // These tokens, with where they begin and end, and why.
+    #[inline(always)]
+    fn new(tokens: Vec<Lexeme<'a>>, start: usize, end: usize, stop: TokensEnd) -> Lexing<'a>
+        ensures { result
+            ≡ record { tokens = tokens.entry; start = start; end = end; stop = stop } }
+    {
+        Lexing {
+            tokens,
+            start,
+            end,
+            stop,
+        }
+    }
+}
+
 /// All tokens from a place on, up to the first place where none stands, or where more than 512
 /// round and square brackets would be open at once.
 ///
@@ -59,9 +75,10 @@ pub fn lex<'a>(alloc: Global, bytes: &'a [u8], at: usize) -> Result<Lexing<'a>, 
 }
 
 /// The tokens of one item from a place on: as [`lex`], but up to the first full stop outside
-/// brackets.
+/// brackets, and without the annotations of a clause and the comma before them.
 ///
-/// After that full stop no byte is looked at.
+/// After that full stop no byte is looked at. Annotations are kept where their brackets don't
+/// match, or where more than 61 of them are open at once.
 ///
 /// # Errors
 ///
@@ -95,12 +112,7 @@ fn lex_up_to<'a>(
     let mut place = start;
     while place < bytes.len() {
         let Some((lexeme, behind)) = lexeme_within(bytes, place, depth) else {
-            return Ok(Lexing {
-                tokens,
-                start,
-                end: place,
-                stop: TokensEnd::Bad,
-            });
+            return Ok(Lexing::new(tokens, start, place, TokensEnd::Bad));
         };
         let end = place + lexeme.spelling.len();
         let comma = ends_formula(tokens.len(), depth, &lexeme);
@@ -117,22 +129,12 @@ fn lex_up_to<'a>(
         let stops = is_stop(depth, &lexeme);
         tokens.push(lexeme)?;
         if item && stops {
-            return Ok(Lexing {
-                tokens,
-                start,
-                end,
-                stop: TokensEnd::FullStop,
-            });
+            return Ok(Lexing::new(tokens, start, end, TokensEnd::FullStop));
         }
         depth = behind;
         place = skip_blanks(bytes, end);
     }
-    Ok(Lexing {
-        tokens,
-        start,
-        end: place,
-        stop: TokensEnd::End,
-    })
+    Ok(Lexing::new(tokens, start, place, TokensEnd::End))
 }
 
 // The token at a place and the number of brackets that are open after it, where this many are open

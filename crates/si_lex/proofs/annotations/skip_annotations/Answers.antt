@@ -1,4 +1,3 @@
-use Rattle.std.proofs.Common.{◌∙◌, sym, ap, length}
 use Rattle.si_lex.proofs.AnnotationLaws.{in_notes_none, in_notes_more, past_notes}
 use Rattle.si_lex.proofs.annotations.skip_annotations.Goals as goal
 

@@ -1,8 +1,7 @@
-use Rattle.std.proofs.Common.{◌≡◌, ◌∷◌, ◌++◌, [], ◌+◌, ◌≤◌, ◌⊎◌, ◌||◌, length, true, false, IsTrue, inl, inr, refl, sym, ap, ◌∙◌, subst, arith}
+use Rattle.std.proofs.Common.{◌≡◌, ◌∷◌, ◌++◌, [], ◌+◌, ◌≤◌, ◌||◌, length, true, IsTrue, inl, inr, refl, sym, ap, ◌∙◌, subst, arith}
 use Rattle.std.proofs.lemmas.Bool.{false≢true}
-use Rattle.si_defs.specs.Grammar.{open_behind}
 use Rattle.si_defs.specs.declared.TheConstants.{DEEPEST_NESTING}
-use Rattle.si_lex.specs.Annotations.{BeginsClause}
+use Rattle.si_lex.specs.Annotations.{BeginsClause, IsBriefUpTo}
 use Rattle.si_lex.specs.FullStops.{IsStop}
 use Rattle.si_lex.specs.Lexemes.{token_of, tokens_of}
 use Rattle.si_lex.specs.declared.lexing.Lexing.{Lexing}
@@ -20,19 +19,22 @@ loop-place-init c =
 pub returns-in_default-clause-read : goal.returns-in_default-clause-read
 returns-in_default-clause-read c =
     let l : Lexing = record { tokens = c.loop-place.tokens; start = c.skip_blanks-start.result; end = c.loop-place.place; stop = Bad } in
-    brief_bad c.args.item c.loop-place.noted c.args.bytes.now c.args.at l c.loop-place.depth c.loop-place.invariant c.loop-place-test.true c.in_default.ensures refl
+    subst (IsBriefUpTo c.args.item c.args.bytes.now c.args.at) (sym c.new.ensures)
+    (brief_bad c.args.item c.loop-place.noted c.args.bytes.now c.args.at l c.loop-place.depth c.loop-place.invariant c.loop-place-test.true c.in_default.ensures refl)
 
 pub returns-clause-read : goal.returns-clause-read
 returns-clause-read c =
     let l : Lexing = record { tokens = c.loop-place.tokens; start = c.skip_blanks-start.result; end = c.loop-place.place; stop = End } in
-    brief_end c.args.item c.loop-place.noted c.args.bytes.now c.args.at l c.loop-place.depth c.loop-place.invariant c.loop-place-test.false refl
+    subst (IsBriefUpTo c.args.item c.args.bytes.now c.args.at) (sym c.new-2.ensures)
+    (brief_end c.args.item c.loop-place.noted c.args.bytes.now c.args.at l c.loop-place.depth c.loop-place.invariant c.loop-place-test.false refl)
 
 pub returns-then-stops-clause-read : goal.returns-then-stops-clause-read
 returns-then-stops-clause-read c =
     let l : Lexing = record { tokens = c.push-in-loop-place.new.self; start = c.skip_blanks-start.result; end = c.loop-place.place + length c.in-Some.lexeme.spelling.now; stop = FullStop } in
-    brief_stop c.args.item c.loop-place.noted c.args.bytes.now c.args.at l c.loop-place.tokens.items c.loop-place.depth c.loop-place.place c.in-Some.lexeme c.loop-place.invariant c.if-item.true
+    subst (IsBriefUpTo c.args.item c.args.bytes.now c.args.at) (sym c.new-then-stops.ensures)
+    (brief_stop c.args.item c.loop-place.noted c.args.bytes.now c.args.at l c.loop-place.tokens.items c.loop-place.depth c.loop-place.place c.in-Some.lexeme c.loop-place.invariant c.if-item.true
     c.loop-place-test.true c.in-Some.ensures.stands (subst (λ d. d ≤ DEEPEST_NESTING) c.in-Some.ensures.opened c.in-Some.ensures.shallow) (c.is_stop-stops.ensures.0 c.if-stops.true)
-    c.in_ok-push-2.ensures.items refl refl
+    c.in_ok-push-2.ensures.items refl refl)
 
 pub loop-place-preserved-in-Some-past_annotations : goal.loop-place-preserved-in-Some-past_annotations
 loop-place-preserved-in-Some-past_annotations c =

@@ -1,16 +1,16 @@
 -- Clauses without their annotations: the readers give the same of them.
-use Rattle.std.proofs.Common.{◌≡◌, ◌≢◌, ℕ, zero, suc, ◌+◌, ◌<◌, ◌≤◌, Bool, true, false, List, [], ◌∷◌, ◌++◌, replicate, length, Option, Some, None, refl, sym, ap, ◌∙◌, subst, ◌⊎◌, inl, inr, append_assoc, append-nil, arith, IsTrue}
+use Rattle.std.proofs.Common.{◌≡◌, ℕ, zero, suc, ◌<◌, ◌≤◌, Bool, true, false, List, [], ◌∷◌, ◌++◌, replicate, length, Option, refl, sym, ap, ◌∙◌, subst, ◌⊎◌, inl, inr, append_assoc, arith, IsTrue}
 use Rattle.std.specs.Prelude.{codes}
 use Rattle.std.proofs.lemmas.Option.{none-some}
 use Rattle.std.proofs.lemmas.List.{length-append, length-map}
 use Rattle.si_defs.specs.Bytes.{Bytes}
 use Rattle.si_defs.specs.Terms as terms
-use Rattle.si_defs.specs.Clauses.{Clause, Term, Terms, Literal, Name}
+use Rattle.si_defs.specs.Clauses.{Clause, Term, Terms, Literal}
 use Rattle.si_defs.specs.Symbols.{Symbol}
 use Rattle.si_defs.specs.Substitutions.{IsAmong}
 use Rattle.si_defs.specs.Texts.{languages}
 use Rattle.si_defs.specs.Tokens.{Token, mark, lower, upper}
-use Rattle.si_defs.specs.Grammar.{IsTerm, AreMoreTerms, IsHead, IsConstant, IsAtom, IsInequation, AreSides, IsSignedAtom, AreMoreLiterals, IsDisjunction, IsFormula, IsName, IsExtra, IsClause, Selection, open_behind, left_bracket, right_bracket, comma, full_stop, not_equal, balances, brackets_behind}
+use Rattle.si_defs.specs.Grammar.{IsTerm, AreMoreTerms, IsHead, IsConstant, IsAtom, IsInequation, AreSides, IsSignedAtom, AreMoreLiterals, IsDisjunction, IsFormula, IsName, IsExtra, IsClause, Selection, open_behind, left_bracket, right_bracket, comma, full_stop, not_equal, balances}
 use Rattle.si_defs.specs.declared.SymKind.{SymKind}
 use Rattle.si_defs.specs.declared.SymKind.TheVariants.{Word, Dollar, Number, Distinct, Equal}
 use Rattle.si_defs.specs.declared.TokenKind.{TokenKind}
@@ -29,7 +29,7 @@ use Rattle.si_parse.specs.Reading.{AreForeign, IsFaultAt, IsNoItem}
 use Rattle.si_parse.specs.declared.item.Read.{Read}
 use Rattle.si_parse.specs.declared.item.Read.TheVariants as read
 use Rattle.si_parse.proofs.GrammarNotes.{Beside, ends, goes_on, beside}
-use Rattle.si_parse.proofs.GrammarStops.{Flat, flat_depth, flat_at, flat_constant, flat_name, one_more, one_less, replicate_last}
+use Rattle.si_parse.proofs.GrammarStops.{Flat, flat_depth, flat_name, one_more, one_less, replicate_last}
 use Rattle.si_parse.proofs.GrammarTerms.{head_constant, marks_apart}
 
 -- ---- inside a bracket

@@ -1,13 +1,9 @@
-use Rattle.std.proofs.Common.{◌≡◌, Option, Some, None, ◌⊎◌, inl, inr, ◌≤◌, length, ap, sym, subst, arith, List}
-use Rattle.std.proofs.lemmas.List.{length-map}
-use Rattle.si_defs.specs.Clauses as clauses
+use Rattle.std.proofs.Common.{length, ap, subst, arith}
 use Rattle.si_defs.specs.Clauses.{IsSoundClause}
-use Rattle.si_defs.specs.Tokens.{Token}
-use Rattle.si_lex.specs.Lexemes.{token_of, tokens_of}
+use Rattle.si_lex.specs.Lexemes.{tokens_of}
 use Rattle.si_term.specs.Meaning.{clause_of}
 use Rattle.si_parse.specs.Meaning.{include_of}
 use Rattle.si_parse.specs.Parsing.{IfFound}
-use Rattle.si_parse.specs.Reading.{IsNoItem}
 use Rattle.si_parse.proofs.ParseReads.{reads_some, reads_none}
 use Rattle.si_parse.proofs.ReadingLaws.{item_few, clause_read, include_read, no_item_read}
 use Rattle.si_parse.proofs.GrammarBrief.{few_of, clause_of_all, include_of_all, no_item_of_all}

@@ -53,8 +53,9 @@ fn skip_annotations<'a>(bytes: &'a [u8], at: usize) -> Option<(Lexeme<'a>, usize
     None
 }
 
-// The brackets that are open after a token, by its first byte. A bit stands for each, 1 for a
-// square one, and before them a 1.
+// The brackets that are open after a token, by its first byte: the clause's own and those of its
+// annotations. A bit stands for each, 1 for a square one, and before them a 1, so it is 1 where all
+// are closed. It stays below 2 ^ 63.
 #[inline(always)]
 fn pending_behind(pending: u64, byte: u8) -> Option<u64>
     requires { pending < 9223372036854775808 }

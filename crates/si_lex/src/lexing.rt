@@ -92,8 +92,9 @@ pub fn lex_item<'a>(alloc: Global, bytes: &'a [u8], at: usize) -> Result<Lexing<
     lex_up_to(alloc, bytes, at, true)
 }
 
-// The tokens from a place on, up to a full stop outside brackets if `item`. It is compiled once for
-// each, and not into what calls them: its loop wants the registers.
+// The tokens from a place on; if `item`, up to a full stop outside brackets, and without
+// annotations. These are tried at one comma alone (`noted`), so no byte is lexed more than twice.
+// It is compiled once for each, and not into what calls them: its loop wants the registers.
 #[inline(always)]
 fn lex_up_to<'a>(
     alloc: Global,

@@ -13,3 +13,4 @@ pub mod MappedLaws
 pub mod Sums
 pub mod Numbers
 pub mod ExplainingLaws
+pub mod AddingLaws

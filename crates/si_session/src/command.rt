@@ -10,6 +10,7 @@ ghost use Rattle.si_steps.specs.Words.{command_text};
 ghost use Rattle.si_steps.specs.declared.word.Word.TheVariants.{Add, Load, Remove, Ask, Subsumers, Subsumed, Stats, Tree, Explain, Sample};
 ghost use Rattle.si_session.specs.Commands.{Commands, ReadsCommand, ReadsQuery, kind_word};
 
+use crate::adding::added_at_once;
 use crate::number::numeral_of;
 use crate::word::{relation_of, word_of};
 use si_defs::Relation;
@@ -63,6 +64,9 @@ pub fn read_command(alloc: Global, line: &[u8]) -> Result<Command, AllocError>
     ensures read { IfOk result (ReadsCommand line.now) }
     ensures refused { OnErr result (AreBlanks line.now → ⊥) }
 {
+    if let Some(clause) = added_at_once(alloc, line) {
+        return Ok(Command::Add(clause));
+    }
     let lexing = lex(alloc, line, 0)?;
     command_of(alloc, lexing.tokens.as_slice(), lexing.stop)
 }

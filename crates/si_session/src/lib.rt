@@ -1,6 +1,7 @@
 //! Commands: one line of input, its reply, and the clauses that are then kept.
 #![tactic(auto)]
 
+mod adding;
 mod answer;
 mod command;
 mod explaining;

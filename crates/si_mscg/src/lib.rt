@@ -13,7 +13,8 @@ ghost use Rattle.si_mscg.specs.Generalising.{Generalises, MayGeneralise, same_he
 ghost use Rattle.si_mscg.specs.Walking.{TellsHeads};
 
 use crate::walk::Walk;
-use si_flat::{Bindings, Cell, Pair, Split};
+pub use si_flat::{Bindings, Split};
+use si_flat::{Cell, Pair};
 pub use spans::{set_spans, without_span};
 use std::alloc::{AllocError, Global};
 

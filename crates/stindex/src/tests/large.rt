@@ -58,21 +58,26 @@ fn push_clauses(page: &mut Vec<u8>) -> Result<(), AllocError> {
     Ok(())
 }
 
-/// A line for each question.
+/// Two lines for each question: the second asks what the first passes.
 fn push_questions(page: &mut Vec<u8>) -> Result<(), AllocError> {
     for number in 0..CLAUSES {
-        page.extend_from_slice(b"variants lit ")?;
-        push_atom(page, number)?;
-        page.push(b'\n')?;
+        for command in [
+            b"variants lit ".as_slice(),
+            b"explain variants lit ".as_slice(),
+        ] {
+            page.extend_from_slice(command)?;
+            push_atom(page, number)?;
+            page.push(b'\n')?;
+        }
     }
     Ok(())
 }
 
-/// Each clause is found, alone.
+/// Each clause is found, alone. Of the nodes only the root and six below it are open.
 fn push_replies(page: &mut Vec<u8>) -> Result<(), AllocError> {
     for number in 0..CLAUSES {
         push_name(page, number)?;
-        page.extend_from_slice(b":1 {}\nend 1\n")?;
+        page.extend_from_slice(b":1 {}\nend 1\npassed 7 nodes 66668 answers 1\n")?;
     }
     Ok(())
 }
@@ -95,7 +100,7 @@ fn answered(alloc: Global, input: &[u8]) -> Result<(Status, Vec<u8>), AllocError
         &Limits::standard(),
         input,
         devices,
-        32 * ROOM,
+        64 * ROOM,
         &mut library,
     )
 }

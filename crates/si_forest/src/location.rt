@@ -1,5 +1,5 @@
 // Where a posting stands.
-ghost use Rattle.std.specs.Prelude.{◌≡◌, IfSome};
+ghost use Rattle.std.specs.Prelude.{◌≡◌, ◌≤◌, ◌^◌, IfSome, IfNone};
 ghost use Rattle.si_forest.specs.Locations.{location};
 
 use si_tree::NodeId;
@@ -30,7 +30,8 @@ impl Model for Location {
 impl Location {
     /// The location at this leaf, where twice its number is a `u32`.
     pub(crate) fn new(literal: bool, leaf: NodeId) -> Option<Location>
-        ensures { IfSome result (λ at. at ≡ location literal leaf) }
+        ensures some { IfSome result (λ at. at ≡ location literal leaf) }
+        ensures none { IfNone result (2 ^ 31 ≤ leaf) }
     {
         let doubled = leaf.number().checked_mul(2)?;
         Some(Location {

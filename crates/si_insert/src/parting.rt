@@ -1,5 +1,5 @@
 // A node that is split, since its bindings don't fit the term.
-ghost use Rattle.std.specs.Prelude.{◌≡◌, ◌+◌, ◌^◌, ◌<◌, IfOk, OnErr, min, true};
+ghost use Rattle.std.specs.Prelude.{◌≡◌, ◌+◌, ◌^◌, ◌<◌, ◌≤◌, IfOk, OnErr, false, min, true};
 ghost use Rattle.si_defs.specs.Substitutions.{AreDistinct};
 ghost use Rattle.si_flat.specs.Cells.{IsWhole};
 ghost use Rattle.si_flat.specs.Rows.{left_sides};
@@ -65,7 +65,8 @@ fn parts_at(
 
 // Whether there are numbers from this one on for as many indicators as the right sides have cells.
 fn has_room(bindings: &Bindings, next: u32) -> bool
-    ensures { result ≡ true → next + right_lengths bindings.now < 2 ^ 31 }
+    ensures room { result ≡ true → next + right_lengths bindings.now < 2 ^ 31 }
+    ensures full { result ≡ false → 2 ^ 31 ≤ next + right_lengths bindings.now }
 {
     right_cells(bindings).saturating_add(next as usize) < MOST_INDICATORS
 }

@@ -1,5 +1,5 @@
 // The postings of a leaf.
-ghost use Rattle.std.specs.Prelude.{◌≡◌, ◌<◌, ◌≤◌, [], ◌∷◌, ◌++◌, ◌+◌, ◌==◌, IfOk, IsFalse, IsTrue, OnErr, OnOk, false, length, true, vec_capacity, vec_len};
+ghost use Rattle.std.specs.Prelude.{◌≡◌, ◌<◌, ◌≤◌, ◌^◌, ◌⊎◌, [], ◌∷◌, ◌++◌, ◌+◌, ◌==◌, IfOk, IsFalse, IsTrue, OnErr, OnOk, false, length, true, vec_capacity, vec_len};
 ghost use Rattle.si_defs.specs.Substitutions.{IsAmong};
 ghost use Rattle.si_legal.specs.declared.Posting as posting;
 ghost use Rattle.si_tree.specs.Changes.{IsWithout};
@@ -200,6 +200,7 @@ impl Slot {
     pub(crate) fn of(posting: Posting) -> Result<Slot, AllocError>
         ensures is { IfOk result (λ slot. slot ≡ filled posting) }
         ensures stands { IfOk result (λ slot. stands slot ≡ true) }
+        ensures err { OnErr result ((2 ^ 32 ≤ posting.clause) ⊎ (2 ^ 31 ≤ posting.entry)) }
     {
         let Ok(clause) = u32::try_from(posting.clause) else {
             return Err(AllocError);

@@ -2,7 +2,7 @@
 use Rattle.std.proofs.Common.{◌≡◌, ℕ, ◌∷◌, drop, refl, subst, arith}
 use Rattle.si_defs.specs.Bytes.{Bytes}
 use Rattle.si_defs.specs.Grammar.{clause_item}
-use Rattle.si_defs.specs.Tokens.{Token, lower, AreBlanks, NextToken, TokenAt}
+use Rattle.si_defs.specs.Tokens.{lower, AreBlanks, NextToken, TokenAt}
 use Rattle.si_steps.specs.Commands.{add, Means}
 use Rattle.si_steps.specs.Words.{command_text}
 use Rattle.si_steps.specs.declared.word.Word.TheVariants.{Add}

@@ -1,8 +1,6 @@
 use Rattle.std.proofs.Common.{rules, subst}
 use Rattle.si_lex.specs.Places.{IsNext, IsNextToken}
-use Rattle.si_lex.specs.declared.token.Lexed.TheVariants as lexed
 use Rattle.si_parse.specs.Reading.{IsRead}
-use Rattle.si_parse.specs.declared.item.Read.TheVariants as read
 use Rattle.si_session.proofs.AddingLaws.{added_line}
 use Rattle.si_session.proofs.adding.added.Goals as goal
 

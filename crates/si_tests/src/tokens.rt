@@ -135,12 +135,9 @@ fn assert_list(
 }
 
 /// How many tokens an item has, where they begin and end, and where its list stops.
-fn assert_item(
-    rt: &impl Abort,
-    alloc: Global,
-    text: &[u8],
-    due: (usize, usize, usize, TokensEnd),
-) -> Result<(), AllocError> {
+type Item = (usize, usize, usize, TokensEnd);
+
+fn assert_item(rt: &impl Abort, alloc: Global, text: &[u8], due: Item) -> Result<(), AllocError> {
     let item = lex_item(alloc, text, 0)?;
     let seen = (item.tokens.len(), item.start, item.end, item.stop);
     assert_eq!(rt; seen, due);
@@ -156,9 +153,15 @@ fn assert_word(rt: &impl Abort, alloc: Global, word: &Lexeme) -> Result<(), Allo
 
 #[test]
 fn lists_of_tokens(rt: HostRuntime) -> Result<(), Fail> {
-    let text = b" cnf(a.b). q";
-    assert_item(&rt, rt.alloc(), text, (7, 1, 10, TokensEnd::FullStop))?;
-    assert_list(&rt, rt.alloc(), text, (8, TokensEnd::End))?;
+    let items: [(&[u8], Item); 3] = [
+        (b" cnf(a.b). q", (7, 1, 10, TokensEnd::FullStop)),
+        (b"cnf(a,b,c,d(e)).", (9, 0, 16, TokensEnd::FullStop)),
+        (b"cnf(a,b,c,d(e]).", (14, 0, 16, TokensEnd::FullStop)),
+    ];
+    for (text, due) in items {
+        assert_item(&rt, rt.alloc(), text, due)?;
+    }
+    assert_list(&rt, rt.alloc(), items[0].0, (8, TokensEnd::End))?;
     let word = Lexeme {
         kind: TokenKind::Lower,
         spelling: b"cnf",

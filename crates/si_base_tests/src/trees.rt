@@ -66,8 +66,8 @@ fn leaf_is_right(alloc: Global) -> Result<bool, AllocError> {
     let mut bindings = Bindings::new(alloc);
     bindings.push(0, &[F, Cell::Entry(0), A])?;
     let root = tree.root();
-    let leaf = tree.add_leaf(alloc, root, bindings, FIRST)?;
-    tree.add_posting(alloc, leaf, SECOND)?;
+    let leaf = tree.add_leaf(root, bindings, FIRST)?;
+    tree.add_posting(leaf, SECOND)?;
     tree.drop_posting(leaf, FIRST);
     tree.drop_posting(leaf, SECOND);
     Ok(is_leaf_alone(&tree, leaf))

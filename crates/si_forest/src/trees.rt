@@ -96,7 +96,6 @@ impl Trees {
     /// they stored before.
     pub fn add_clause<T: SymTable>(
         &mut self,
-        alloc: Global,
         table: &T,
         key: usize,
         clause: &Clause,
@@ -107,21 +106,22 @@ impl Trees {
         ensures err { OnErr result (HoldSame self.old self.new) }
         ensures legal { AreLegal self.new }
     {
-        make_place(alloc, &mut self.locations, key)?;
-        let locations = self.pair.add_clause(alloc, table, key, clause)?;
+        make_place(self.alloc, &mut self.locations, key)?;
+        let locations = self.pair.add_clause(self.alloc, table, key, clause)?;
         self.locations[key] = locations;
         Ok(())
     }
 
     /// Takes out the postings of the clause with this key. It takes no memory, but for joins of
     /// nodes, which are left out where there is none.
-    pub fn remove_clause(&mut self, alloc: Global, key: usize)
+    pub fn remove_clause(&mut self, key: usize)
         ensures removes { RemovesClause key self.old self.new }
         ensures legal { AreLegal self.new }
     {
         if key < self.locations.len() {
-            let locations = std::mem::replace(&mut self.locations[key], Vec::new(alloc));
-            self.pair.remove_clause(alloc, key, locations.as_slice());
+            let locations = std::mem::replace(&mut self.locations[key], Vec::new(self.alloc));
+            self.pair
+                .remove_clause(self.alloc, key, locations.as_slice());
         }
     }
 

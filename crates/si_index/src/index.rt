@@ -252,7 +252,7 @@ fn keep(
     );
     let key = put(alloc, clauses, &mut register.names, clause, row)?;
     let kept = clauses.get(key).unwrap();
-    match trees.add_clause(alloc, &register.signature, key, kept) {
+    match trees.add_clause(&register.signature, key, kept) {
         Ok(()) => Ok(()),
         Err(_) => {
             register.names.remove(&kept.name, key);
@@ -321,7 +321,7 @@ impl ClauseStore for Index {
     {
         let key = self.register.names.get(&self.clauses, name)?;
         let clause = self.clauses.remove(key);
-        self.trees.remove_clause(self.alloc, key);
+        self.trees.remove_clause(key);
         Some(self.register.leave(&clause, key))
     }
 
@@ -341,7 +341,7 @@ impl ClauseStore for Index {
     {
         let key = self.clauses.last_key()?;
         let clause = self.clauses.remove(key);
-        self.trees.remove_clause(self.alloc, key);
+        self.trees.remove_clause(key);
         Some(self.register.leave(&clause, key))
     }
 }

@@ -40,12 +40,12 @@ pub fn insert_cells(
     ensures ok { IfOk result (λ leaf. Inserts tree.old tree.new cells.now posting leaf) }
     ensures err { OnErr result (KeepsAll tree.old tree.new) }
 {
-    renumber_if_due(alloc, tree);
+    renumber_if_due(tree);
     let placed = place(alloc, openings, tree, cells, posting)?;
     if let Some(leaf) = placed {
         return Ok(leaf);
     }
-    tree.renumber(alloc)?;
+    tree.renumber()?;
     let placed = place(alloc, openings, tree, cells, posting)?;
     let Some(leaf) = placed else {
         return Err(AllocError);
@@ -54,13 +54,13 @@ pub fn insert_cells(
 }
 
 // Numbers the indicators anew, where that is due and there is memory for it.
-fn renumber_if_due(alloc: Global, tree: &mut Tree)
+fn renumber_if_due(tree: &mut Tree)
     ensures { KeepsAll tree.old tree.new }
 {
     if !tree.should_renumber() {
         return;
     }
-    let _ = tree.renumber(alloc);
+    let _ = tree.renumber();
 }
 
 // Puts the posting under the term, if no split is in want of numbers. Else, and at an error, the
@@ -81,14 +81,14 @@ fn place(
     while let Some(split) = tree.split(node) {
         let Some(child) = tree.child(node, head_there(openings, cells, split)) else {
             let bindings = openings.bindings(alloc, cells)?;
-            return Ok(Some(tree.add_leaf(alloc, node, bindings, posting)?));
+            return Ok(Some(tree.add_leaf(node, bindings, posting)?));
         };
         if !pass(openings, tree.bindings(child), cells)? {
             return part(alloc, openings, tree, child, cells, posting);
         }
         node = child;
     }
-    tree.add_posting(alloc, node, posting)?;
+    tree.add_posting(node, posting)?;
     Ok(Some(node))
 }
 

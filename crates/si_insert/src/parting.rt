@@ -39,7 +39,7 @@ pub(crate) fn part(
     let split = generalise(alloc, bindings, &new, tree.next())?;
     bind_all(openings, bindings);
     let others = openings.bindings(alloc, cells)?;
-    Ok(Some(tree.split_node(alloc, node, split, others, posting)?))
+    Ok(Some(tree.split_node(node, split, others, posting)?))
 }
 
 // What is open at the left sides of some bindings, in their order.

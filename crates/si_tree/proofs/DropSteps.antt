@@ -75,6 +75,7 @@ heads_swapped tree split place (k ∷ hs) (d ∷ cs) h c are =
 -- ---- what is written
 abbrev pub without_leaf : Inside → Slab TreeNode → Inside
 without_leaf old nodes = record {
+  alloc = old.alloc;
   nodes = nodes;
   root = old.root;
   next = old.next;

@@ -271,6 +271,7 @@ fresh_head t parent n cells p head kept may got whole is among =
 -- ---- what is written
 abbrev pub written_leaf : Inside → Slab TreeNode → ℕ → TreeNode → ℕ → ℕ → Inside
 written_leaf old between at m vars leaves = record {
+  alloc = old.alloc;
   nodes = with_value between at m;
   root = old.root;
   next = old.next;

@@ -168,6 +168,7 @@ unmerged_fits t = counted_below unmerged_of leaves_of t.nodes unmerged_leaf
 -- ---- the leaf written through `&mut`
 abbrev pub written : Inside → ℕ → TreeNode → ℕ → Inside
 written old key m unmerged = record {
+  alloc = old.alloc;
   nodes = with_value old.nodes key m;
   root = old.root;
   next = old.next;

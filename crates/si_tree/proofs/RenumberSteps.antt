@@ -80,6 +80,7 @@ module _ {R : Type 0} (count : trees.Content → ℕ) where
 -- ---- the whole tree
 abbrev pub renumbered_inside : Inside → Renumbering → Inside
 renumbered_inside old r = record {
+  alloc = old.alloc;
   nodes = exchanged old.nodes r.nodes.items;
   root = old.root;
   next = r.next;

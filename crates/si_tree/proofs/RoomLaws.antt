@@ -43,6 +43,7 @@ same_slots old new key same =
 -- ---- a kept tree
 abbrev pub with_nodes : Inside → Slab TreeNode → Inside
 with_nodes old nodes = record {
+  alloc = old.alloc;
   nodes = nodes;
   root = old.root;
   next = old.next;

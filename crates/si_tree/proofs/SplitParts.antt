@@ -71,6 +71,7 @@ first_left (c ∷ cells) n e = record { right = term_of c.1; more = bindings_of 
 -- ---- what is written
 abbrev pub made_split : Inside → Slab TreeNode → ℕ → ℕ → Inside
 made_split old nodes next vars = record {
+  alloc = old.alloc;
   nodes = nodes;
   root = old.root;
   next = next;

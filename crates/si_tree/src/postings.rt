@@ -1,5 +1,5 @@
 // The postings of a leaf.
-ghost use Rattle.std.specs.Prelude.{◌≡◌, ◌<◌, ◌≤◌, ◌^◌, ◌⊎◌, [], ◌∷◌, ◌++◌, ◌+◌, ◌==◌, IfOk, IsFalse, IsTrue, OnErr, OnOk, false, length, true, vec_capacity, vec_len};
+ghost use Rattle.std.specs.Prelude.{◌≡◌, ◌<◌, ◌≤◌, ◌^◌, ◌⊎◌, [], ◌∷◌, ◌++◌, ◌+◌, ◌==◌, IfOk, IsFalse, IsTrue, OnErr, OnOk, false, length, true, vec_capacity, vec_len, Some, slice_get};
 ghost use Rattle.si_defs.specs.Substitutions.{IsAmong};
 ghost use Rattle.si_legal.specs.declared.Posting as posting;
 ghost use Rattle.si_tree.specs.Changes.{IsWithout};
@@ -172,6 +172,24 @@ impl<'a> Postings<'a> {
         ensures { result ≡ (length self.now == 0) }
     {
         self.count == 0
+    }
+
+    /// The posting with this number from 0, found by a walk over the slots.
+    pub fn at(&self, n: usize) -> Posting
+        requires { n < length self.now }
+        ensures { slice_get self.now n ≡ Some result }
+    {
+        let mut left = n;
+        for slot in self.slots {
+            if !slot.stands() {
+                continue;
+            }
+            if left == 0 {
+                return slot.posting();
+            }
+            left -= 1;
+        }
+        unreachable!()
     }
 
     /// Appends them to others, which have no less room then. At an error these are as before, and

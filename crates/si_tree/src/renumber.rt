@@ -11,7 +11,7 @@ use crate::numbers::{note_rights, renumbered};
 use crate::tree::Tree;
 use si_flat::Bindings;
 use slab::Slab;
-use std::alloc::{AllocError, Global};
+use std::alloc::AllocError;
 
 // As few numbers as these are never worth a renumbering.
 const SPARE_NUMBERS: u64 = 256;
@@ -51,13 +51,13 @@ impl TreeNode {
 impl Tree {
     /// Numbers the indicators anew: those that a node opens get the next numbers in order, from
     /// the number of those that are opened above it. At an error the tree is as before.
-    pub fn renumber(&mut self, alloc: Global) -> Result<(), AllocError>
+    pub fn renumber(&mut self) -> Result<(), AllocError>
         ensures ok { OnOk result (Renumbers self.old self.new) }
         ensures err { OnErr result (self.new ≡ self.old) }
     {
         // Should it fail, it isn't due again before the numbers have doubled.
         self.renumbered_next = self.next;
-        let Renumbering { nodes, next } = self.renumbering(alloc)?;
+        let Renumbering { nodes, next } = self.renumbering()?;
         exchange(&mut self.nodes, nodes);
         self.next = next;
         self.renumbered_next = next;
@@ -74,23 +74,23 @@ impl Tree {
     }
 
     // What all nodes are to have.
-    fn renumbering(&self, alloc: Global) -> Result<Renumbering, AllocError>
+    fn renumbering(&self) -> Result<Renumbering, AllocError>
         ensures { IfOk result (IsRenumbering self.now) }
     {
-        let mut numbers = vec![in alloc; 0u32; self.next as usize]?;
-        let mut left = Vec::new(alloc);
+        let mut numbers = vec![in self.alloc; 0u32; self.next as usize]?;
+        let mut left = Vec::new(self.alloc);
         left.push(Visit {
             node: self.root,
             opened: 1,
         })?;
-        let mut nodes = Vec::with_capacity(alloc, self.nodes.len())?;
+        let mut nodes = Vec::with_capacity(self.alloc, self.nodes.len())?;
         let mut next: u32 = 1;
         while let Some(visit) = left.pop() {
             let node = &self.nodes[visit.node.key as usize];
             let opened = note_rights(&mut numbers, &node.bindings, visit.opened);
             nodes.push(Renumbered {
                 node: visit.node,
-                bindings: renumbered(alloc, numbers.as_slice(), &node.bindings)?,
+                bindings: renumbered(self.alloc, numbers.as_slice(), &node.bindings)?,
                 split: split_in(&node.content, numbers.as_slice()),
             })?;
             stack(&mut left, node.content.children(), opened)?;

@@ -25,6 +25,7 @@ use std::marker::Model;
 /// A substitution tree. Contracts see the tree itself, which is legal.
 #[derive(Drop)]
 pub struct Tree {
+    pub(crate) alloc: Global,
     pub(crate) nodes: Slab<TreeNode>,
     pub(crate) root: NodeId,
     pub(crate) next: u32,
@@ -64,6 +65,7 @@ impl Tree {
             content: Content::Inner(branches),
         });
         Ok(Tree {
+            alloc,
             nodes,
             root: NodeId { key: root as u32 },
             next: 1,
@@ -170,19 +172,14 @@ impl Tree {
     }
 
     /// Appends a posting to those of a leaf. At an error the tree is as before.
-    pub fn add_posting(
-        &mut self,
-        alloc: Global,
-        leaf: NodeId,
-        posting: Posting,
-    ) -> Result<(), AllocError>
+    pub fn add_posting(&mut self, leaf: NodeId, posting: Posting) -> Result<(), AllocError>
         requires { MayAddPosting self.old leaf posting }
         ensures ok { OnOk result (AddsPosting self.old self.new leaf posting) }
         ensures err { OnErr result (self.new ≡ self.old) }
     {
         let node = &mut self.nodes[leaf.key as usize];
         let before = node.unmerged();
-        node.add_posting(alloc, posting)?;
+        node.add_posting(self.alloc, posting)?;
         self.unmerged -= before;
         Ok(())
     }
@@ -201,7 +198,6 @@ impl Tree {
     /// Puts a leaf below an inner node. At an error the tree is as before.
     pub fn add_leaf(
         &mut self,
-        alloc: Global,
         parent: NodeId,
         bindings: Bindings,
         posting: Posting,
@@ -220,7 +216,7 @@ impl Tree {
         };
         let vars = self.vars.max(beyond_entries(&bindings));
         let content = Content::leaf(posting)?;
-        make_room(alloc, &mut self.nodes, parent.key as usize)?;
+        make_room(self.alloc, &mut self.nodes, parent.key as usize)?;
         let key = self.nodes.insert_reserved(TreeNode {
             parent: Some(parent),
             bindings,
@@ -241,7 +237,6 @@ impl Tree {
     /// the tree is as before.
     pub fn split_node(
         &mut self,
-        alloc: Global,
         node: NodeId,
         split: Split,
         others: Bindings,
@@ -269,9 +264,9 @@ impl Tree {
             unreachable!()
         };
         let next = next_after(&rest_node, self.next);
-        let leaf = TreeNode::leaf(alloc, rest_new, &others, posting)?;
+        let leaf = TreeNode::leaf(self.alloc, rest_new, &others, posting)?;
         let vars = self.vars.max(beyond_entries(&leaf.bindings));
-        let fork = TreeNode::fork(alloc, parent, common, first, head, node)?;
+        let fork = TreeNode::fork(self.alloc, parent, common, first, head, node)?;
         reserve_nodes(&mut self.nodes, 2)?;
         let (_, added) = put_between(
             &mut self.nodes,

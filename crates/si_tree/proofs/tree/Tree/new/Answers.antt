@@ -9,7 +9,7 @@ use Rattle.si_tree.proofs.NewLaws.{IsFirst, alone, new_kept}
 use Rattle.si_tree.proofs.tree.Tree.new.Goals as goal
 
 abbrev made : goal.After-insert_reserved-root → Inside
-made c = record { nodes = c.insert_reserved-root.new.self; root = c.insert_reserved-root.result; next = 1; vars = 0; leaves = 0; unmerged = 0; renumbered_next = 1 }
+made c = record { alloc = c.args.alloc; nodes = c.insert_reserved-root.new.self; root = c.insert_reserved-root.result; next = 1; vars = 0; leaves = 0; unmerged = 0; renumbered_next = 1 }
 
 abbrev bare : goal.After-insert_reserved-root → TreeNode
 bare c = record { parent = None; bindings = c.new-3.result; content = Inner c.in_ok-branches.branches }

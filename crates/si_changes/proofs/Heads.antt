@@ -88,7 +88,7 @@ module _ (tree : Tree Term) (legal : HasLegalNodes tree) where
       ]
 
   -- At an inner node two paths go on by different children.
-  pub record Parts (p q : Path) : Type 0 where
+  pub record PathsPart (p q : Path) : Type 0 where
     pub key : ℕ
     pub node : Node Term
     pub above : Path
@@ -101,7 +101,7 @@ module _ (tree : Tree Term) (legal : HasLegalNodes tree) where
     pub passes : PassesBy p child
     pub other_passes : PassesBy q other
 
-  parts_below : (p q : Path) (step : ℕ × Node Term) → Parts p q → Parts p (step ∷ q)
+  parts_below : (p q : Path) (step : ℕ × Node Term) → PathsPart p q → PathsPart p (step ∷ q)
   parts_below p q step h = record {
     key = h.key;
     node = h.node;
@@ -117,16 +117,16 @@ module _ (tree : Tree Term) (legal : HasLegalNodes tree) where
   }
 
   -- Of two paths one passes by the other's start, or they part.
-  pub parting : (k j : ℕ) (p q : Path) → IsPath tree (Some k) p → IsPath tree (Some j) q → PassesBy p j ⊎ (PassesBy q k ⊎ Parts p q)
+  pub parting : (k j : ℕ) (p q : Path) → IsPath tree (Some k) p → IsPath tree (Some j) q → PassesBy p j ⊎ (PassesBy q k ⊎ PathsPart p q)
   parting k j p [] reached reached' = absurd (by reached') where
     by : Some j ≡ None → ⊥
     by e = cc
   parting k j p (step ∷ []) reached reached' = inl (subst (PassesBy p) (sym (same_Some j step.0 reached'.0 ∙ (legal.nodes step.0 step.1 reached'.1).only_root reached'.2)) (passes_root k p reached))
   parting k j p (step ∷ next ∷ q) reached reached' =
-      elim (parting k next.0 p (next ∷ q) reached (refl, reached'.2.1, reached'.2.2)) as (λ _. PassesBy p j ⊎ (PassesBy (step ∷ next ∷ q) k ⊎ Parts p (step ∷ next ∷ q))) [
-        | inl a ↦ elim (passes_child k next.0 p reached a) as (λ _. PassesBy p j ⊎ (PassesBy (step ∷ next ∷ q) k ⊎ Parts p (step ∷ next ∷ q))) [
+      elim (parting k next.0 p (next ∷ q) reached (refl, reached'.2.1, reached'.2.2)) as (λ _. PassesBy p j ⊎ (PassesBy (step ∷ next ∷ q) k ⊎ PathsPart p (step ∷ next ∷ q))) [
+        | inl a ↦ elim (passes_child k next.0 p reached a) as (λ _. PassesBy p j ⊎ (PassesBy (step ∷ next ∷ q) k ⊎ PathsPart p (step ∷ next ∷ q))) [
           | inl e ↦ inr (inl (inr (inl (sym e))))
-          | inr c ↦ elim (eqb_tells c.0 step.0) as (λ _. PassesBy p j ⊎ (PassesBy (step ∷ next ∷ q) k ⊎ Parts p (step ∷ next ∷ q))) [
+          | inr c ↦ elim (eqb_tells c.0 step.0) as (λ _. PassesBy p j ⊎ (PassesBy (step ∷ next ∷ q) k ⊎ PathsPart p (step ∷ next ∷ q))) [
             | inl e ↦ inl (subst (PassesBy p) (e.1 ∙ sym (same_Some j step.0 reached'.0)) c.2)
             | inr e ↦ inr (inr (record {
               key = next.0;
@@ -143,7 +143,7 @@ module _ (tree : Tree Term) (legal : HasLegalNodes tree) where
             }))
           ]
         ]
-        | inr h ↦ elim h as (λ _. PassesBy p j ⊎ (PassesBy (step ∷ next ∷ q) k ⊎ Parts p (step ∷ next ∷ q))) [
+        | inr h ↦ elim h as (λ _. PassesBy p j ⊎ (PassesBy (step ∷ next ∷ q) k ⊎ PathsPart p (step ∷ next ∷ q))) [
           | inl a ↦ inr (inl (inr a))
           | inr parts ↦ inr (inr (parts_below p (next ∷ q) step parts))
         ]
@@ -151,7 +151,7 @@ module _ (tree : Tree Term) (legal : HasLegalNodes tree) where
 
   -- ---- terms
   -- paths that part have different terms
-  pub part_apart : (k j : Option ℕ) (p q : Path) → IsPath tree k p → IsPath tree j q → Parts p q → path_term p ≡ path_term q → ⊥
+  pub part_apart : (k j : Option ℕ) (p q : Path) → IsPath tree k p → IsPath tree j q → PathsPart p q → path_term p ≡ path_term q → ⊥
   part_apart k j p q reached reached' h same =
       let node = legal.nodes h.key h.node h.reached.1 in
       let path : node.above ≡ h.above = one_path tree h.node.parent node.above h.above node.reached h.reached.2 in

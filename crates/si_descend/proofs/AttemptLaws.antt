@@ -32,7 +32,7 @@ use Rattle.si_descend.specs.declared.search.Search.{Search}
 use Rattle.si_descend.specs.Attempts.{head_at, wanted_of, place_count, HasHeadBelow, AreHeadsFor, HasPlaces, IsTried, IsTriedBefore, AreAttempts}
 use Rattle.si_descend.specs.Lending.{HasRoomForAnswers}
 use Rattle.si_descend.specs.Heads.{SplitsBy, IsWanted, RulesOut}
-use Rattle.si_descend.specs.Searching.{IsReady, HasComeTo, IsClosedAt, HasFound, HasFoundBelow, HasRoomBelow}
+use Rattle.si_descend.specs.Searching.{IsReady, HasComeTo, IsClosedAt, HasFound, HasFoundBelow, HasRoomForAllBelow}
 use Rattle.si_descend.proofs.EnoughLaws.{child_fits}
 use Rattle.si_descend.proofs.ExactLists.{distinct_both}
 use Rattle.si_descend.proofs.Below.{IsChildOf}
@@ -73,8 +73,8 @@ headed tree (terms.var (ind n)) bare within = bare tt
 
 module _ (search : Search) (ready : IsReady search) (key : ℕ) (node : Node Term) (has : HasNode search.tree.now key node) where
   -- ---- all children in order
-  pub scanned : (children : Bor (List ℕ)) (w : Option Wanted) (pairs : Pairs) → AtNode search.tree.now key (λ n. children.now ≡ children_of n.content) → IsWanted search key pairs w → AreAttempts search key (InOrder (record { children = children; wanted = w }))
-  scanned children w pairs are wanted = record {
+  pub all_in_order : (children : Bor (List ℕ)) (w : Option Wanted) (pairs : Pairs) → AtNode search.tree.now key (λ n. children.now ≡ children_of n.content) → IsWanted search key pairs w → AreAttempts search key (InOrder (record { children = children; wanted = w }))
+  all_in_order children w pairs are wanted = record {
     places = are;
     splits = splits w wanted;
     one = λ i j child p q e f. one_index children.now i j child distinct e f;
@@ -154,7 +154,7 @@ module _ (search : Search) (ready : IsReady search) (key : ℕ) (node : Node Ter
     pub tried_among : (place child : ℕ) → IsTried search key a place child → IsAmong (children_of node.content) child
     tried_among place child = by a are.places where
       by : (b : Attempts) → HasPlaces search key b → IsTried search key b place child → IsAmong (children_of node.content) child
-      by (InOrder scan) there e = subst (λ l. IsAmong l child) (there node has) (get_among scan.children.now place child e)
+      by (InOrder siblings) there e = subst (λ l. IsAmong l child) (there node has) (get_among siblings.children.now place child e)
       by (ByHeads heads) few (h, e, c) = subst (λ l. IsAmong l child) (ap children_of (sym c.content ∙ ap (λ n. n.content) (one_node search.tree.now key c.node node c.has has))) c.among
 
     pub tried_child : (place child : ℕ) → IsTried search key a place child → IsChildOf search.tree.now key child
@@ -219,7 +219,7 @@ module _ (search : Search) (ready : IsReady search) (key : ℕ) (node : Node Ter
       same_there : (child c : ℕ) → IsTried search key a place child → IsTried search key a place c → child ≡ c
       same_there child c = by a where
         by : (b : Attempts) → IsTried search key b place child → IsTried search key b place c → child ≡ c
-        by (InOrder scan) e f = same_Some child c (sym e ∙ f)
+        by (InOrder siblings) e f = same_Some child c (sym e ∙ f)
         by (ByHeads heads) (h, e, p) (k, f, q) = one_by_head h child c p (subst (λ n. IsChildBy search.tree.now key n c) (same_Some k h (sym f ∙ e)) q)
 
     tried_siblings : (place : ℕ) (tried : List ℕ) → WereTried search key a place tried → AreSiblings search ready key node has tried
@@ -235,7 +235,7 @@ module _ (search : Search) (ready : IsReady search) (key : ℕ) (node : Node Ter
         (tried ++ child ∷ [], now, one_child_more search ready key node has tried child old mid last m n (tried_siblings (place + 1) (tried ++ child ∷ []) now) (not_tried_yet place child tried within t were) before found)
 
     -- and for what is found at the next place there is room
-    pub next_fits : {A : Type 0} (place child : ℕ) (out now : Vec Posting A) (n : ℕ) → place < place_count a → IsTried search key a place child → IsUnderway search key a place (λ tried. HasFoundBelow search tried out.items now.items n) → vec_capacity out ≤ vec_capacity now → HasRoomBelow search (children_of node.content) out → HasRoomForAnswers search.tree.now child search.relation search.query.now now
+    pub next_fits : {A : Type 0} (place child : ℕ) (out now : Vec Posting A) (n : ℕ) → place < place_count a → IsTried search key a place child → IsUnderway search key a place (λ tried. HasFoundBelow search tried out.items now.items n) → vec_capacity out ≤ vec_capacity now → HasRoomForAllBelow search (children_of node.content) out → HasRoomForAnswers search.tree.now child search.relation search.query.now now
     next_fits place child out now n within t (tried, were, found) more room =
         let next = one_more_tried place child tried within t were in
         child_fits search ready key node has tried (children_of node.content) child out now n (tried_siblings (place + 1) (tried ++ child ∷ []) next) (not_tried_yet place child tried within t were)

@@ -23,7 +23,7 @@ use Rattle.si_unify.proofs.RoomLaws.{enough_on}
 use Rattle.si_descend.specs.declared.search.Search.{Search}
 use Rattle.si_descend.specs.Answers.{IsAnswerBelow}
 use Rattle.si_descend.specs.Lending.{IsEnoughForTree, HasRoomForAll, HasRoomForAnswers}
-use Rattle.si_descend.specs.Searching.{IsReady, IsOpenAt, HasFoundBelow, HasRoomBelow, LacksRoom}
+use Rattle.si_descend.specs.Searching.{IsReady, IsOpenAt, HasFoundBelow, HasRoomForAllBelow, LacksRoom}
 use Rattle.si_descend.proofs.ExactLists.{distinct_both}
 use Rattle.si_descend.proofs.Finding.{appends_leaf, answered, answered_apart}
 use Rattle.si_descend.proofs.Visiting.{query_numbered, AreSiblings}
@@ -80,7 +80,7 @@ module _ (search : Search) (ready : IsReady search) (key : ℕ) (node : Node Ter
           )
 
     -- and after these for what is found below
-    pub below_fits : (out mid : Vec Posting A) → IsOpenAt search key → mid.items ≡ out.items ++ postings_of node.content → vec_capacity out ≤ vec_capacity mid → HasRoomForAnswers search.tree.now key search.relation search.query.now out → HasRoomBelow search (children_of node.content) mid
+    pub below_fits : (out mid : Vec Posting A) → IsOpenAt search key → mid.items ≡ out.items ++ postings_of node.content → vec_capacity out ≤ vec_capacity mid → HasRoomForAnswers search.tree.now key search.relation search.query.now out → HasRoomForAllBelow search (children_of node.content) mid
     below_fits out mid is e more room q stands = by node.content refl e (own_fit out is room) where
       by : (content : Content) → node.content ≡ content → mid.items ≡ out.items ++ postings_of content → length out.items + length (postings_of node.content) ≤ vec_capacity out → HasRoomForAll (IsAnswerBelow search.tree.now (children_of content) search.relation q) mid
       by (inner split children) c m own found distinct are =
@@ -90,7 +90,7 @@ module _ (search : Search) (ready : IsReady search) (key : ℕ) (node : Node Ter
       by (leaf ps) c m own (p ∷ found) distinct are = absurd (are p (inl refl)).1
 
     -- ---- one child more
-    pub child_fits : (tops wider : List ℕ) (child : ℕ) (out now : Vec Posting A) (n : ℕ) → AreSiblings search ready key node has (tops ++ child ∷ []) → (IsAmong tops child → ⊥) → ((t : ℕ) → IsAmong tops t → IsAmong wider t) → IsAmong wider child → HasFoundBelow search tops out.items now.items n → vec_capacity out ≤ vec_capacity now → HasRoomBelow search wider out → HasRoomForAnswers search.tree.now child search.relation search.query.now now
+    pub child_fits : (tops wider : List ℕ) (child : ℕ) (out now : Vec Posting A) (n : ℕ) → AreSiblings search ready key node has (tops ++ child ∷ []) → (IsAmong tops child → ⊥) → ((t : ℕ) → IsAmong tops t → IsAmong wider t) → IsAmong wider child → HasFoundBelow search tops out.items now.items n → vec_capacity out ≤ vec_capacity now → HasRoomForAllBelow search wider out → HasRoomForAnswers search.tree.now child search.relation search.query.now now
     child_fits tops wider child out now n siblings new within there_too found more room q stands next distinct are =
         let a = found.appends q stands in
         omega (

@@ -21,7 +21,8 @@ use Rattle.si_changes.proofs.Frames.{HasLegalNodes}
 use Rattle.si_changes.proofs.HeadLaws.{image_keeps}
 use Rattle.si_changes.proofs.Permuted.{among_or_not}
 use Rattle.si_changes.proofs.ComposeLaws.{same_substituted, indicator_in, applied_from, is_substituted}
-use Rattle.si_descend.specs.Descending.{Freezes, LeavesFrozen, SolvesFrom, Renames}
+use Rattle.si_fit.specs.Meeting.{LeavesFrozen}
+use Rattle.si_descend.specs.Descending.{Freezes, SolvesFrom, Renames}
 use Rattle.si_descend.proofs.Tabulated.{tabulated, tabulated_is, tabulated_on, replaced_or_not, left_alone, substituted_none, cut_down}
 use Rattle.si_descend.proofs.Along.{along, path_term_along, along_none, bound_on, is_step, solves_along, solves_path_term}
 
@@ -108,7 +109,7 @@ module _ (tree : Tree Term) (legal : HasLegalNodes tree) where
       pub solves : SolvesFrom slots q p map
       pub entries : (m : ℕ) → image same_variable map (entry m) ≡ image same_variable s0 (entry m)
 
-    pub extended : (s0 : Substitution Symbol Variable) → LeavesFrozen slots s0 → apply same_variable s0 q ≡ apply same_variable s0 (path_term p) → Extends s0
+    pub extended : (s0 : Substitution Symbol Variable) → LeavesFrozen slots (image same_variable s0) → apply same_variable s0 q ≡ apply same_variable s0 (path_term p) → Extends s0
     extended s0 frozen equal = record {
       map = s;
       solves = record {
@@ -153,13 +154,13 @@ module _ (tree : Tree Term) (legal : HasLegalNodes tree) where
       pub solves : SolvesFrom slots q p map
       pub renames : Renames relation (path_term p) map
 
-    none_frozen : slots.freeze_query ≡ false → slots.freeze_entry ≡ false → (s : Substitution Symbol Variable) → LeavesFrozen slots s
+    none_frozen : slots.freeze_query ≡ false → slots.freeze_entry ≡ false → (s : Substitution Symbol Variable) → LeavesFrozen slots (image same_variable s)
     none_frozen a b s (query n) h = absurd (frozen_or_not slots.freeze_query a h)
     none_frozen a b s (entry n) h = absurd (frozen_or_not slots.freeze_entry b h)
     none_frozen a b s (ind n) h = absurd (frozen_or_not false refl h)
 
     -- a map on the query and the indicators leaves the entry
-    entry_left : slots.freeze_query ≡ false → (s : Substitution Symbol Variable) → IsOn (terms.variables q ++ map ind (indicators (path_term p))) s → LeavesFrozen slots s
+    entry_left : slots.freeze_query ≡ false → (s : Substitution Symbol Variable) → IsOn (terms.variables q ++ map ind (indicators (path_term p))) s → LeavesFrozen slots (image same_variable s)
     entry_left a s on (query n) h = absurd (frozen_or_not slots.freeze_query a h)
     entry_left a s on (entry n) h = left_alone (terms.variables q ++ map ind (indicators (path_term p))) s (entry n) on by where
       by : IsAmong (terms.variables q ++ map ind (indicators (path_term p))) (entry n) → ⊥
@@ -173,7 +174,7 @@ module _ (tree : Tree Term) (legal : HasLegalNodes tree) where
     query_kept : (s : Substitution Symbol Variable) → IsOn (terms.variables (path_term p)) s → (n : ℕ) → image same_variable s (query n) ≡ terms.var (query n)
     query_kept s on n = left_alone (terms.variables (path_term p)) s (query n) on (no_query from p reached n)
 
-    query_left : slots.freeze_entry ≡ false → (s : Substitution Symbol Variable) → IsOn (terms.variables (path_term p)) s → LeavesFrozen slots s
+    query_left : slots.freeze_entry ≡ false → (s : Substitution Symbol Variable) → IsOn (terms.variables (path_term p)) s → LeavesFrozen slots (image same_variable s)
     query_left b s on (query n) h = query_kept s on n
     query_left b s on (entry n) h = absurd (frozen_or_not slots.freeze_entry b h)
     query_left b s on (ind n) h = absurd (frozen_or_not false refl h)

@@ -13,7 +13,7 @@ use Rattle.si_legal.specs.Legal.{IsLegalNode, IsLegalContent}
 use Rattle.si_legal.specs.OpenNodes.{IsOpen}
 use Rattle.si_tree.specs.Reading.{children_of, postings_of, split_of}
 use Rattle.si_descend.specs.declared.search.Search.{Search}
-use Rattle.si_descend.specs.Searching.{IsReady, IsOpenAt, AreOpenBelow, HasFound, HasFoundBelow, HasRoomBelow}
+use Rattle.si_descend.specs.Searching.{IsReady, IsOpenAt, AreOpenBelow, HasFound, HasFoundBelow, HasRoomForAllBelow}
 use Rattle.si_descend.proofs.Below.{IsChildOf, passes_child, child_passes, passes_first}
 use Rattle.si_descend.specs.Lending.{HasRoomForAnswers}
 use Rattle.si_descend.proofs.EnoughLaws.{child_fits}
@@ -78,7 +78,7 @@ module _ (search : Search) (ready : IsReady search) (key : ℕ) (node : Node Ter
       are_more = subst (AreSiblings search ready key node has) (take_more children place child within ∙ ap (λ c. take place children ++ c ∷ []) (sym is)) (taken_siblings (place + 1))
 
   -- for what is found below the next child there is room
-  pub walked_fits : {A : Type 0} (place child : ℕ) (out now : Vec Posting A) (n : ℕ) → place < length children → child ≡ get_or children place child → HasFoundBelow search (take place children) out.items now.items n → vec_capacity out ≤ vec_capacity now → HasRoomBelow search (children_of node.content) out → HasRoomForAnswers search.tree.now child search.relation search.query.now now
+  pub walked_fits : {A : Type 0} (place child : ℕ) (out now : Vec Posting A) (n : ℕ) → place < length children → child ≡ get_or children place child → HasFoundBelow search (take place children) out.items now.items n → vec_capacity out ≤ vec_capacity now → HasRoomForAllBelow search (children_of node.content) out → HasRoomForAnswers search.tree.now child search.relation search.query.now now
   walked_fits place child out now n within is before more room =
       child_fits search ready key node has (take place children) (children_of node.content) child out now n are_more (λ a. (distinct_parts (take place children) (child ∷ []) are_more.distinct).2 child a (inl refl))
       (λ c a. subst (λ l. IsAmong l c) are (subst (λ l. IsAmong l c) (take-append-drop place children) (among_front (take place children) (drop place children) c a)))

@@ -1,8 +1,10 @@
 -- What a descent finds.
-use Rattle.std.specs.Prelude.{◌≡◌, ℕ, ◌↔◌, List, length}
+use Rattle.std.specs.Borrow.{Bor}
+use Rattle.std.specs.Prelude.{◌≡◌, ℕ, ◌↔◌, List, length, Result, IfOk, OnErr}
 use Rattle.si_defs.specs.Substitutions.{IsAmong, AreDistinct}
 use Rattle.si_defs.specs.declared.Relation.{Relation}
 use Rattle.si_defs.specs.Relations.{Relates}
+use Rattle.si_trail.specs.Trails.{Trail}
 use Rattle.si_flat.specs.declared.Cell.{Cell}
 use Rattle.si_flat.specs.Cells.{same_variable, Term, StandsFor}
 use Rattle.si_legal.specs.declared.Posting.{Posting}
@@ -19,6 +21,16 @@ pub record Finds (tree : Tree Term) (top : ℕ) (relation : Relation) (query : L
   pub counts : (q : Term) → StandsFor query q → CountsOpen tree top relation q n
   pub appends : (q : Term) → StandsFor query q
       → AppendsAnswers (IsAnswer tree top relation q) old new
+
+-- What a descent promises. The list has what was found after what it had, at an error only what it
+-- had, and the trail is as before.
+pub record HasDescended {E : Type 0} (tree : Tree Term) (top : ℕ) (relation : Relation)
+    (query : List Cell) (result : Result ℕ E) (old new : Trail (Bor (List Cell)))
+    (before after : List Posting) : Type 0 where
+  pub finds : IfOk result (Finds tree top relation query before after)
+  pub err : OnErr result (after ≡ before)
+  pub pairs : new.pairs ≡ old.pairs
+  pub slots : new.slots ≡ old.slots
 
 -- the posting is stored under a term in the relation
 abbrev pub IsStoredAnswer : Tree Term → Relation → Term → Posting → Type 0

@@ -47,23 +47,24 @@ pub record AreHeadsFor (relation : Relation) (slots : Slots) (vars : ℕ) (first
 -- ---- children at places
 -- the child is tried at this place
 abbrev pub IsTried : Search → ℕ → Attempts → ℕ → ℕ → Type 0
-IsTried search key (InOrder scan) place child = slice_get scan.children.now place ≡ Some child
+IsTried search key (InOrder siblings) place child =
+    slice_get siblings.children.now place ≡ Some child
 IsTried search key (ByHeads heads) place child =
     (h : Head) × (head_at heads.wanted.first place ≡ Some h) × IsChildBy search.tree.now key h child
 
 abbrev pub wanted_of : Attempts → Option Wanted
-wanted_of (InOrder scan) = scan.wanted
+wanted_of (InOrder siblings) = siblings.wanted
 wanted_of (ByHeads heads) = Some heads.wanted
 
 -- the number of places
 abbrev pub place_count : Attempts → ℕ
-place_count (InOrder scan) = length scan.children.now
+place_count (InOrder siblings) = length siblings.children.now
 place_count (ByHeads heads) = heads.end
 
 -- a slice has all children, and heads have so many places at most
 abbrev pub HasPlaces : Search → ℕ → Attempts → Type 0
-HasPlaces search key (InOrder scan) =
-    AtNode search.tree.now key (λ n. scan.children.now ≡ children_of n.content)
+HasPlaces search key (InOrder siblings) =
+    AtNode search.tree.now key (λ n. siblings.children.now ≡ children_of n.content)
 HasPlaces search key (ByHeads heads) = heads.end ≤ 2 ^ 32
 
 abbrev pub IsTriedBefore : Search → ℕ → Attempts → ℕ → ℕ → Type 0

@@ -19,6 +19,7 @@ use Rattle.si_legal.specs.Descents.{SolvesPath}
 use Rattle.si_legal.specs.OpenNodes.{RenamesEntry}
 use Rattle.si_fit.specs.Fitting.{AllowsSolving}
 use Rattle.si_tree.specs.Reading.{IsNode}
+use Rattle.si_fit.specs.Meeting.{LeavesFrozen}
 
 -- ---- slots
 -- whose variables are constants
@@ -38,14 +39,9 @@ pub record HasRoom (slots : Slots) (tree : Tree Term) (q : Term) : Type 0 where
       node.bindings
 
 -- ---- solutions
--- the map leaves frozen variables as they are
-abbrev pub LeavesFrozen : Slots → Substitution Symbol Variable → Type 0
-LeavesFrozen slots s =
-    (x : Variable) → is_frozen slots x ≡ true → image same_variable s x ≡ terms.var x
-
 pub record SolvesFrom (slots : Slots) (q : Term) (path : Path) (s : Substitution Symbol Variable)
     : Type 0 where
-  pub frozen : LeavesFrozen slots s
+  pub frozen : LeavesFrozen slots (image same_variable s)
   pub zero : apply same_variable s (indicator 0) ≡ apply same_variable s q
   pub bindings : SolvesPath s path
 

@@ -14,7 +14,8 @@ use Rattle.si_tree.specs.Reading.{AtNode, split_of}
 use Rattle.si_legal.specs.Legal.{ChildBinds}
 use Rattle.si_descend.specs.declared.heads.Wanted.{Wanted}
 use Rattle.si_descend.specs.declared.search.Search.{Search}
-use Rattle.si_descend.specs.Descending.{LeavesFrozen, Renames}
+use Rattle.si_fit.specs.Meeting.{LeavesFrozen}
+use Rattle.si_descend.specs.Descending.{Renames}
 
 abbrev pub first_of : List Cell → Cell
 first_of cells = get_or cells 0 (cell.App 0 0 0)
@@ -29,7 +30,7 @@ KeepsVariables relation slots = slots.freeze_entry ≡ true
 abbrev pub CannotMeet : Relation → Slots → Cell → Cell → Type 0
 CannotMeet relation slots one other =
     (s : Substitution Symbol Variable) (t u : Term)
-    → LeavesFrozen slots s → Renames relation u s
+    → LeavesFrozen slots (image same_variable s) → Renames relation u s
     → first_of (cells_of t) ≡ one → first_of (cells_of u) ≡ other
     → apply same_variable s t ≡ apply same_variable s u → ⊥
 

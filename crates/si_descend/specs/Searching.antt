@@ -79,7 +79,7 @@ HasEntered search key pairs false = IsClosedAt search key
 
 -- ---- what is known on the way
 -- The bindings on the trail are solved, and it is noted what became of the variables of an entry.
-pub record IsSearching (search : Search) (trail : Trail (Bor (List Cell))) (taken : Trail ⊤)
+pub record IsDescending (search : Search) (trail : Trail (Bor (List Cell))) (taken : Trail ⊤)
     : Type 0 where
   pub ready : IsReady search
   pub solving : AllowsSolving search.slots trail.pairs trail.slots
@@ -89,14 +89,14 @@ pub record IsSearching (search : Search) (trail : Trail (Bor (List Cell))) (take
 pub record IsAtNode (search : Search) (key : ℕ) (trail : Trail (Bor (List Cell)))
     (taken : Trail ⊤) : Type 0 where
   pub node : IsNode search.tree.now key
-  pub searching : IsSearching search trail taken
+  pub searching : IsDescending search trail taken
   pub there : HasComeTo search (Some key) trail.pairs
 
 -- only those of the nodes above it are
 pub record IsAboveNode (search : Search) (key : ℕ) (trail : Trail (Bor (List Cell)))
     (taken : Trail ⊤) : Type 0 where
   pub node : IsNode search.tree.now key
-  pub searching : IsSearching search trail taken
+  pub searching : IsDescending search trail taken
   pub above : AtNode search.tree.now key (λ n. HasComeTo search n.parent trail.pairs)
 
 -- More may be bound at an error alone.
@@ -130,8 +130,8 @@ abbrev pub LacksRoom : {A : Type 0} → Search → ℕ → Pairs → SolverRoom 
 LacksRoom search top pairs room out =
     (n : ℕ) → IsEnoughForTree n search.tree.now search.slots pairs room → LacksPlace search top out
 
-abbrev pub HasRoomBelow : {A : Type 0} → Search → List ℕ → Vec Posting A → Type 0
-HasRoomBelow search tops out =
+abbrev pub HasRoomForAllBelow : {A : Type 0} → Search → List ℕ → Vec Posting A → Type 0
+HasRoomForAllBelow search tops out =
     (q : Term) → StandsFor search.query.now q
     → HasRoomForAll (IsAnswerBelow search.tree.now tops search.relation q) out
 
@@ -139,7 +139,7 @@ abbrev pub LacksRoomBelow : {A : Type 0} → Search → List ℕ → Pairs → S
     → Vec Posting A → Type 0
 LacksRoomBelow search tops pairs room out =
     (n : ℕ) → IsEnoughForTree n search.tree.now search.slots pairs room
-    → HasRoomBelow search tops out → ⊥
+    → HasRoomForAllBelow search tops out → ⊥
 
 -- ---- how far down a node stands
 abbrev pub one_deeper : (Option ℕ → ℕ) → Option (Node Term) → ℕ

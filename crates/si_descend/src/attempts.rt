@@ -20,14 +20,14 @@ use si_unify::Slots;
 #[derive(Clone, Copy)]
 pub(crate) enum Attempts<'a> {
     /// All in order.
-    InOrder(Scan<'a>),
+    InOrder(Siblings<'a>),
     /// Those that have certain heads.
     ByHeads(Lookup),
 }
 
 /// All children of a node, and what is wanted of them.
 #[derive(Clone, Copy)]
-pub(crate) struct Scan<'a> {
+pub(crate) struct Siblings<'a> {
     pub(crate) children: &'a [NodeId],
     wanted: Option<Wanted>,
 }
@@ -37,7 +37,7 @@ pub(crate) struct Scan<'a> {
 #[derive(Clone, Copy)]
 pub(crate) struct Lookup {
     wanted: Wanted,
-    /// The number of places of heads.
+    /// The number of these heads.
     pub(crate) end: usize,
 }
 
@@ -58,7 +58,7 @@ pub(crate) fn attempts_at<'a>(
     let wanted = asked_of(search, node, trail);
     let children = search.tree.children(node);
     let vars = search.tree.vars();
-    let all = Attempts::InOrder(Scan { children, wanted });
+    let all = Attempts::InOrder(Siblings { children, wanted });
     let Some(asked) = wanted else {
         return all;
     };
@@ -95,21 +95,21 @@ fn heads_for(relation: Relation, slots: &Slots, vars: u32, first: Cell) -> Optio
 pub(crate) fn child_in_order(
     search: &Search<'_>,
     node: NodeId,
-    scan: Scan<'_>,
+    siblings: Siblings<'_>,
     place: usize,
 ) -> Option<NodeId>
     requires node { IsNode search.now.tree.now node }
-    requires attempts { AreAttempts search.now node (InOrder scan) }
-    requires within { place < length scan.children.now }
-    ensures some { IfSome result (IsTried search.now node (InOrder scan.entry) place) }
+    requires attempts { AreAttempts search.now node (InOrder siblings) }
+    requires within { place < length siblings.children.now }
+    ensures some { IfSome result (IsTried search.now node (InOrder siblings.entry) place) }
     ensures none { IfNone result ((child : ℕ)
-        → IsTried search.now node (InOrder scan.entry) place child
-        → RulesOut search.now scan.entry.wanted child) }
+        → IsTried search.now node (InOrder siblings.entry) place child
+        → RulesOut search.now siblings.entry.wanted child) }
 {
-    if is_unwanted(search, scan.wanted, search.tree.head(node, place)) {
+    if is_unwanted(search, siblings.wanted, search.tree.head(node, place)) {
         return None;
     }
-    Some(scan.children[place])
+    Some(siblings.children[place])
 }
 
 /// The child that has the head at a place, if there is one, where the children are looked up by

@@ -7,7 +7,7 @@ ghost use Rattle.si_descend.specs.Attempts.{AreAttempts};
 ghost use Rattle.si_descend.specs.Heads.{IsWanted};
 ghost use Rattle.si_descend.specs.Searching.{IsAboveNode, IsAtNode, IsOpenAt, Returns};
 
-use crate::attempts::{Attempts, Lookup, Scan, attempts_at, child_by_head, child_in_order};
+use crate::attempts::{Attempts, Lookup, Siblings, attempts_at, child_by_head, child_in_order};
 use crate::search::{Search, enter};
 use crate::subtrees::{count_all, is_open_below};
 use crate::taken::Taken;
@@ -118,8 +118,8 @@ fn count_children<'a>(
     ensures returns { Returns result trail.old trail.new taken.old taken.new }
 {
     match attempts_at(search, node, trail) {
-        Attempts::InOrder(scan) => count_in_order(
-            search, node, scan, scratch, trail, taken, counted,
+        Attempts::InOrder(siblings) => count_in_order(
+            search, node, siblings, scratch, trail, taken, counted,
         ),
         Attempts::ByHeads(heads) => count_by_heads(
             search, node, heads, scratch, trail, taken, counted,
@@ -133,21 +133,21 @@ fn count_children<'a>(
 fn count_in_order<'a>(
     search: &Search<'a>,
     node: NodeId,
-    scan: Scan<'a>,
+    siblings: Siblings<'a>,
     scratch: &mut Scratch,
     trail: &mut Trail<&'a [Cell]>,
     taken: &mut Taken,
     counted: &mut Counted,
 ) -> Result<(), AllocError>
     requires there { IsAtNode search.now node trail.old taken.old }
-    requires wanted { IsWanted search.now node trail.old.pairs scan.wanted }
-    requires attempts { AreAttempts search.now node (InOrder scan) }
+    requires wanted { IsWanted search.now node trail.old.pairs siblings.wanted }
+    requires attempts { AreAttempts search.now node (InOrder siblings) }
     ensures counted { OnOk result (AtNode search.now.tree.now node (λ parent.
         CountsMoreBelow search.now (children_of parent.content) counted.old counted.new)) }
     ensures returns { Returns result trail.old trail.new taken.old taken.new }
 {
-    for place in 0..scan.children.len() {
-        let Some(child) = child_in_order(search, node, scan, place) else {
+    for place in 0..siblings.children.len() {
+        let Some(child) = child_in_order(search, node, siblings, place) else {
             continue;
         };
         count_at(search, child, scratch, trail, taken, counted)?;

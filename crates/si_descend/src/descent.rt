@@ -4,7 +4,7 @@ ghost use Rattle.si_defs.specs.Substitutions.{Grows};
 ghost use Rattle.si_trail.specs.Trails.{HasDistinctSlots};
 ghost use Rattle.si_flat.specs.Cells.{IsWhole};
 ghost use Rattle.si_tree.specs.Reading.{IsNode};
-ghost use Rattle.si_descend.specs.Answers.{Finds, Retrieves};
+ghost use Rattle.si_descend.specs.Answers.{HasDescended, Retrieves};
 ghost use Rattle.si_descend.specs.Counting.{CountsAnswers, HasCounted};
 ghost use Rattle.si_unify.specs.Rooms.{IsNoLessRoom};
 ghost use Rattle.si_descend.specs.Lending.{HasRoomForAnswers, IsEnoughForTree, IsTableFor};
@@ -40,11 +40,8 @@ pub fn descend<'a>(
     out: &mut Vec<Posting>,
 ) -> Result<u64, AllocError>
     requires { MayDescend tree.now node relation query.now slots.now trail.old }
-    ensures finds { IfOk result (Finds tree.now node relation query.now
-        out.old.items out.new.items) }
-    ensures err { OnErr result (out.new.items ≡ out.old.items) }
-    ensures pairs { trail.new.pairs ≡ trail.old.pairs }
-    ensures slots { trail.new.slots ≡ trail.old.slots }
+    ensures { HasDescended tree.now node relation query.now result trail.old trail.new
+        out.old.items out.new.items }
 {
     let mut scratch = Scratch::new(alloc);
     let mut taken = Taken::none(alloc, relation, slots)?;
@@ -81,11 +78,8 @@ pub fn descend_with<'a>(
 ) -> Result<u64, AllocError>
     requires may { MayDescend tree.now node relation query.now slots.now trail.old }
     requires table { IsTableFor relation slots.now taken.old }
-    ensures finds { IfOk result (Finds tree.now node relation query.now
-        out.old.items out.new.items) }
-    ensures err { OnErr result (out.new.items ≡ out.old.items) }
-    ensures pairs { trail.new.pairs ≡ trail.old.pairs }
-    ensures slots { trail.new.slots ≡ trail.old.slots }
+    ensures descends { HasDescended tree.now node relation query.now result trail.old trail.new
+        out.old.items out.new.items }
     ensures table { taken.new ≡ taken.old }
     ensures full { OnErr result ((n : ℕ)
         → IsEnoughForTree n tree.now slots.now trail.old.pairs scratch.old

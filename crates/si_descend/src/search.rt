@@ -11,7 +11,7 @@ ghost use Rattle.si_descend.specs.Lending.{IsEnoughForTree};
 ghost use Rattle.si_unify.specs.Rooms.{AreNoLongerThan, IsNoLessRoom};
 ghost use Rattle.si_descend.specs.Searching.{IsReady, IsAboveNode, IsAtNode, IsOpenAt, HasEntered, HasFound, HasFoundBelow, LacksRoom, LacksRoomBelow, NotesTaken, Returns};
 
-use crate::attempts::{Attempts, Lookup, Scan, attempts_at, child_by_head, child_in_order};
+use crate::attempts::{Attempts, Lookup, Siblings, attempts_at, child_by_head, child_in_order};
 use crate::subtrees::{append_all, is_open_below};
 use crate::taken::Taken;
 use crate::variants::is_renaming;
@@ -184,7 +184,9 @@ fn visit_children<'a>(
     ensures room { vec_capacity out.old ≤ vec_capacity out.new }
 {
     match attempts_at(search, node, trail) {
-        Attempts::InOrder(scan) => visit_in_order(search, node, scan, scratch, trail, taken, out),
+        Attempts::InOrder(siblings) => {
+            visit_in_order(search, node, siblings, scratch, trail, taken, out)
+        }
         Attempts::ByHeads(heads) => visit_by_heads(search, node, heads, scratch, trail, taken, out),
     }
 }
@@ -195,15 +197,15 @@ fn visit_children<'a>(
 fn visit_in_order<'a>(
     search: &Search<'a>,
     node: NodeId,
-    scan: Scan<'a>,
+    siblings: Siblings<'a>,
     scratch: &mut Scratch,
     trail: &mut Trail<&'a [Cell]>,
     taken: &mut Taken,
     out: &mut Vec<Posting>,
 ) -> Result<u64, AllocError>
     requires there { IsAtNode search.now node trail.old taken.old }
-    requires wanted { IsWanted search.now node trail.old.pairs scan.wanted }
-    requires attempts { AreAttempts search.now node (InOrder scan) }
+    requires wanted { IsWanted search.now node trail.old.pairs siblings.wanted }
+    requires attempts { AreAttempts search.now node (InOrder siblings) }
     ensures found { IfOk result (λ n. AtNode search.now.tree.now node (λ parent.
         HasFoundBelow search.now (children_of parent.content) out.old.items out.new.items n)) }
     ensures returns { Returns result trail.old trail.new taken.old taken.new }
@@ -215,8 +217,8 @@ fn visit_in_order<'a>(
     ensures room { vec_capacity out.old ≤ vec_capacity out.new }
 {
     let mut count = 0;
-    for place in 0..scan.children.len() {
-        let Some(child) = child_in_order(search, node, scan, place) else {
+    for place in 0..siblings.children.len() {
+        let Some(child) = child_in_order(search, node, siblings, place) else {
             continue;
         };
         count += visit(search, child, scratch, trail, taken, out)?;

@@ -47,15 +47,15 @@ module _ (pairs : Numbering) (tokens : List Lexeme) where
   }
 
   -- one more
-  pub along_next : (old here next : WalkState) (count : ℕ) (left rest behind : List Lexeme) → IsAlong pairs tokens old here count left → tokens_of left ≡ comma ∷ tokens_of rest
-      → ReadsTerm pairs rest here next behind → IsAlong pairs tokens old next (count + 1) behind
-  along_next old here next count left rest behind k e h = record {
+  pub along_next : (old here next : WalkState) (count : ℕ) (left rest after : List Lexeme) → IsAlong pairs tokens old here count left → tokens_of left ≡ comma ∷ tokens_of rest
+      → ReadsTerm pairs rest here next after → IsAlong pairs tokens old next (count + 1) after
+  along_next old here next count left rest after k e h = record {
     done = k.done ++ h.term ∷ [];
     along = along_more IsTerm term_last term_goes_on term_stops k.along e h.read;
     counted = omega (arith, k.counted, length-append k.done (h.term ∷ []));
     flat = writes_end pairs k.done h.term old here next k.flat h.flat;
     fewer = omega (arith, k.fewer, h.fewer, shorter_by comma left rest e);
-    spends = spends_then tokens left behind old here next k.spends (spends_more 0 left rest behind behind here next h.spends (omega (arith, shorter_by comma left rest e)) (omega arith));
+    spends = spends_then tokens left after old here next k.spends (spends_more 0 left rest after after here next h.spends (omega (arith, shorter_by comma left rest e)) (omega arith));
   }
 
   -- where no comma stands, they are all
@@ -82,15 +82,15 @@ module _ (pairs : Numbering) (tokens : List Lexeme) where
   }
 
   -- arguments in brackets
-  pub applied_all : (a b : WalkState) (count : ℕ) (inside behind rest : List Lexeme) → tokens_of tokens ≡ left_bracket ∷ tokens_of inside → tokens_of behind ≡ right_bracket ∷ tokens_of rest
-      → ReadsArguments pairs inside a b count behind → ReadsApplied pairs tokens a b count rest
-  applied_all a b count inside behind rest opens closes h = record {
+  pub applied_all : (a b : WalkState) (count : ℕ) (inside after rest : List Lexeme) → tokens_of tokens ≡ left_bracket ∷ tokens_of inside → tokens_of after ≡ right_bracket ∷ tokens_of rest
+      → ReadsArguments pairs inside a b count after → ReadsApplied pairs tokens a b count rest
+  applied_all a b count inside after rest opens closes h = record {
     arguments = terms.row h.arguments;
     read = λ kind text.
         parses_at opens (ap (λ n. Some (terms.app (record { kind = kind; text = text; side = Function; arity = n }) (terms.row h.arguments), tokens_of rest)) h.counted)
         (applied_some kind text (tokens_of inside) h.arguments (tokens_of rest) (parses_at refl (ap (λ ts. Some (h.arguments, ts)) (sym closes)) h.read));
     flat = h.flat;
-    fewer = omega (arith, h.fewer, shorter_by left_bracket tokens inside opens, shorter_by right_bracket behind rest closes);
+    fewer = omega (arith, h.fewer, shorter_by left_bracket tokens inside opens, shorter_by right_bracket after rest closes);
     spends =
-        spends_more 0 tokens inside behind rest a b h.spends (omega (arith, shorter_by left_bracket tokens inside opens)) (omega (arith, shorter_by right_bracket behind rest closes));
+        spends_more 0 tokens inside after rest a b h.spends (omega (arith, shorter_by left_bracket tokens inside opens)) (omega (arith, shorter_by right_bracket after rest closes));
   }

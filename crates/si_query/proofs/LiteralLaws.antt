@@ -57,24 +57,24 @@ module _ (pairs : Numbering) (tokens : List Lexeme) (a b : WalkState) where
     by k = record { meant = k.atom; read = atom_some (statement true k.atom) k.read refl; flat = k.flat }
 
   -- an atom in brackets
-  pub round_read : (inside behind : List Lexeme) (read : Option (Bor (List Lexeme))) → tokens_of tokens ≡ left_bracket ∷ tokens_of inside → ReadsAtom pairs inside a b behind
-      → Passes (IsMark 41) behind read → IfSome read (λ rest. ReadsNegated pairs tokens a b rest.now)
-  round_read inside behind None opens h closes = tt
-  round_read inside behind (Some rest) opens h closes = record {
+  pub round_read : (inside after : List Lexeme) (read : Option (Bor (List Lexeme))) → tokens_of tokens ≡ left_bracket ∷ tokens_of inside → ReadsAtom pairs inside a b after
+      → Passes (IsMark 41) after read → IfSome read (λ rest. ReadsNegated pairs tokens a b rest.now)
+  round_read inside after None opens h closes = tt
+  round_read inside after (Some rest) opens h closes = record {
     meant = h.meant;
     read = parses_at opens refl (negated_some (tokens_of inside) (parses_at refl (ap (λ ts. Some (h.meant, ts)) (sym (mark_front closes))) h.read));
     flat = h.flat;
   }
 
   -- a literal after a tilde
-  pub tilde_read : {E : Type 0} (result : Result (Option (Bor (List Lexeme))) E) (behind : List Lexeme) → tokens_of tokens ≡ mark 126 ∷ tokens_of behind
-      → IfOk result (λ read. IfSome read (λ rest. ReadsNegated pairs behind a b rest.now)) → IfOk result (λ read. IfSome read (λ rest. ReadsLiteral pairs tokens a b rest.now))
-  tilde_read result behind opens = IfOk-weaker result _ _ (λ read. by read) where
-    by : (read : Option (Bor (List Lexeme))) → IfSome read (λ rest. ReadsNegated pairs behind a b rest.now) → IfSome read (λ rest. ReadsLiteral pairs tokens a b rest.now)
+  pub tilde_read : {E : Type 0} (result : Result (Option (Bor (List Lexeme))) E) (after : List Lexeme) → tokens_of tokens ≡ mark 126 ∷ tokens_of after
+      → IfOk result (λ read. IfSome read (λ rest. ReadsNegated pairs after a b rest.now)) → IfOk result (λ read. IfSome read (λ rest. ReadsLiteral pairs tokens a b rest.now))
+  tilde_read result after opens = IfOk-weaker result _ _ (λ read. by read) where
+    by : (read : Option (Bor (List Lexeme))) → IfSome read (λ rest. ReadsNegated pairs after a b rest.now) → IfSome read (λ rest. ReadsLiteral pairs tokens a b rest.now)
     by None h = h
     by (Some rest) h = record {
       meant = negatively h.meant;
-      read = parses_at opens refl (literal_tilde (tokens_of behind) (Some (h.meant, tokens_of rest.now)) h.read);
+      read = parses_at opens refl (literal_tilde (tokens_of after) (Some (h.meant, tokens_of rest.now)) h.read);
       flat = h.flat;
     }
 

@@ -22,7 +22,7 @@ pub(crate) fn literal<'t, 'b, T: SymTable>(
         writer.old writer.new rest.now)) }
 {
     match mark_at(tokens, b'~') {
-        Some(behind) => negated(alloc, table, behind, writer),
+        Some(after) => negated(alloc, table, after, writer),
         None => match statement(alloc, table, false, tokens, writer)? {
             Some((_, rest)) => Ok(Some(rest)),
             None => Ok(None),
@@ -45,7 +45,7 @@ fn negated<'t, 'b, T: SymTable>(
         return atom(alloc, table, tokens, writer);
     };
     match atom(alloc, table, inside, writer)? {
-        Some(behind) => Ok(mark_at(behind, b')')),
+        Some(after) => Ok(mark_at(after, b')')),
         None => Ok(None),
     }
 }
@@ -114,10 +114,10 @@ fn equation<'t, 'b, T: SymTable>(
         (r.0 && not denied) tokens.now writer.old writer.new r.1.now)) }
 {
     let gap = writer.open()?;
-    let Some(behind) = term(alloc, table, tokens, writer)? else {
+    let Some(after) = term(alloc, table, tokens, writer)? else {
         return Ok(None);
     };
-    let Some((equal, next)) = sign(behind) else {
+    let Some((equal, next)) = sign(after) else {
         return Ok(None);
     };
     let Some(rest) = term(alloc, table, next, writer)? else {
@@ -154,14 +154,14 @@ fn predicate<'t, 'b, T: SymTable>(
     ensures { IfOk result (λ read. IfSome read (λ rest. ReadsStatement (T.pairs table.now) true
         positive tokens.now writer.old writer.new rest.now)) }
 {
-    let [head, behind @ ..] = tokens else {
+    let [head, after @ ..] = tokens else {
         return Ok(None);
     };
     let Some(kind) = head_kind(head.kind) else {
         return Ok(None);
     };
     let gap = writer.open()?;
-    let Some((arity, rest)) = applied(alloc, table, behind, writer)? else {
+    let Some((arity, rest)) = applied(alloc, table, after, writer)? else {
         return Ok(None);
     };
     if sign(rest).is_some() {

@@ -112,10 +112,10 @@ pub(crate) fn applied<'t, 'b, T: SymTable>(
     let Some(inside) = mark_at(tokens, b'(') else {
         return Ok(Some((0, tokens)));
     };
-    let Some((count, behind)) = arguments(alloc, table, inside, writer)? else {
+    let Some((count, after)) = arguments(alloc, table, inside, writer)? else {
         return Ok(None);
     };
-    match mark_at(behind, b')') {
+    match mark_at(after, b')') {
         Some(rest) => Ok(Some((count, rest))),
         None => Ok(None),
     }
@@ -139,10 +139,10 @@ fn arguments<'t, 'b, T: SymTable>(
     let mut left = first;
     let mut count: u32 = 1;
     while let Some(rest) = mark_at(left, b',') {
-        let Some(behind) = term(alloc, table, rest, writer)? else {
+        let Some(after) = term(alloc, table, rest, writer)? else {
             return Ok(None);
         };
-        left = behind;
+        left = after;
         count += 1;
     }
     Ok(Some((count, left)))

@@ -1,6 +1,6 @@
 use Rattle.std.proofs.Common.{subst}
 use Rattle.si_descend.specs.Attempts.{AreHeadsFor}
-use Rattle.si_descend.proofs.AttemptLaws.{scanned, by_heads}
+use Rattle.si_descend.proofs.AttemptLaws.{all_in_order, by_heads}
 use Rattle.si_descend.proofs.attempts.attempts_at.Goals as goal
 
 pub asked_of-wanted-requires-clause-node : goal.asked_of-wanted-requires-clause-node
@@ -16,19 +16,19 @@ pub returns-in_default-clause-wanted : goal.returns-in_default-clause-wanted
 returns-in_default-clause-wanted c = c.asked_of-wanted.ensures
 
 pub returns-in_default-clause-attempts : goal.returns-in_default-clause-attempts
-returns-in_default-clause-attempts c = scanned c.args.search.now c.requires.ready c.args.node c.requires.node.0 c.requires.node.1 c.children-children.result c.asked_of-wanted.result c.args.trail.now.pairs c.children-children.ensures c.asked_of-wanted.ensures
+returns-in_default-clause-attempts c = all_in_order c.args.search.now c.requires.ready c.args.node c.requires.node.0 c.requires.node.1 c.children-children.result c.asked_of-wanted.result c.args.trail.now.pairs c.children-children.ensures c.asked_of-wanted.ensures
 
 pub returns-in_default-heads_for-clause-wanted : goal.returns-in_default-heads_for-clause-wanted
 returns-in_default-heads_for-clause-wanted c = c.asked_of-wanted.ensures
 
 pub returns-in_default-heads_for-clause-attempts : goal.returns-in_default-heads_for-clause-attempts
-returns-in_default-heads_for-clause-attempts c = scanned c.args.search.now c.requires.ready c.args.node c.requires.node.0 c.requires.node.1 c.children-children.result c.asked_of-wanted.result c.args.trail.now.pairs c.children-children.ensures c.asked_of-wanted.ensures
+returns-in_default-heads_for-clause-attempts c = all_in_order c.args.search.now c.requires.ready c.args.node c.requires.node.0 c.requires.node.1 c.children-children.result c.asked_of-wanted.result c.args.trail.now.pairs c.children-children.ensures c.asked_of-wanted.ensures
 
 pub returns-then-children-end-clause-wanted : goal.returns-then-children-end-clause-wanted
 returns-then-children-end-clause-wanted c = c.asked_of-wanted.ensures
 
 pub returns-then-children-end-clause-attempts : goal.returns-then-children-end-clause-attempts
-returns-then-children-end-clause-attempts c = scanned c.args.search.now c.requires.ready c.args.node c.requires.node.0 c.requires.node.1 c.children-children.result c.asked_of-wanted.result c.args.trail.now.pairs c.children-children.ensures c.asked_of-wanted.ensures
+returns-then-children-end-clause-attempts c = all_in_order c.args.search.now c.requires.ready c.args.node c.requires.node.0 c.requires.node.1 c.children-children.result c.asked_of-wanted.result c.args.trail.now.pairs c.children-children.ensures c.asked_of-wanted.ensures
 
 pub returns-clause-wanted : goal.returns-clause-wanted
 returns-clause-wanted c = c.in-Some.ensures

@@ -28,7 +28,7 @@ count_open-returns-clause-counted t c =
 
 pub count_in_order-loop-place-init : goal.count_in_order-loop-place-init
 count_in_order-loop-place-init t c = record {
-  counted_so_far = none_tried c.args.search.now c.requires.there.searching.ready c.args.node c.requires.there.node.0 c.requires.there.node.1 (InOrder c.args.scan) c.requires.attempts (λ tried. CountsMoreBelow c.args.search.now tried c.args.counted.now c.args.counted.now) (more_none c.args.search.now c.requires.there.searching.ready c.args.node c.requires.there.node.0 c.requires.there.node.1 c.args.counted.now);
+  counted_so_far = none_tried c.args.search.now c.requires.there.searching.ready c.args.node c.requires.there.node.0 c.requires.there.node.1 (InOrder c.args.siblings) c.requires.attempts (λ tried. CountsMoreBelow c.args.search.now tried c.args.counted.now c.args.counted.now) (more_none c.args.search.now c.requires.there.searching.ready c.args.node c.requires.there.node.0 c.requires.there.node.1 c.args.counted.now);
   same_pairs = refl;
   same_slots = refl;
   same_taken = refl;
@@ -42,7 +42,7 @@ count_in_order-child_in_order-requires-clause-within t c = c.loop-place-test.tru
 
 pub count_in_order-loop-place-preserved-in_default : goal.count_in_order-loop-place-preserved-in_default
 count_in_order-loop-place-preserved-in_default t c = record {
-  counted_so_far = one_not_tried c.args.search.now c.requires.there.searching.ready c.args.node c.requires.there.node.0 c.requires.there.node.1 (InOrder c.args.scan) c.requires.attempts c.loop-place.place (λ tried. CountsMoreBelow c.args.search.now tried c.args.counted.now c.loop-place.counted) c.in_default.ensures.none c.loop-place.invariant.counted_so_far;
+  counted_so_far = one_not_tried c.args.search.now c.requires.there.searching.ready c.args.node c.requires.there.node.0 c.requires.there.node.1 (InOrder c.args.siblings) c.requires.attempts c.loop-place.place (λ tried. CountsMoreBelow c.args.search.now tried c.args.counted.now c.loop-place.counted) c.in_default.ensures.none c.loop-place.invariant.counted_so_far;
   same_pairs = c.loop-place.invariant.same_pairs;
   same_slots = c.loop-place.invariant.same_slots;
   same_taken = c.loop-place.invariant.same_taken;
@@ -50,14 +50,14 @@ count_in_order-loop-place-preserved-in_default t c = record {
 
 pub count_in_order-count_at-requires : goal.count_in_order-count_at-requires
 count_in_order-count_at-requires t c =
-    let is : IsChildOf c.args.search.now.tree.now c.args.node c.in-Some.child = tried_child c.args.search.now c.requires.there.searching.ready c.args.node c.requires.there.node.0 c.requires.there.node.1 (InOrder c.args.scan) c.requires.attempts c.loop-place.place c.in-Some.child c.in-Some.ensures.some in (
+    let is : IsChildOf c.args.search.now.tree.now c.args.node c.in-Some.child = tried_child c.args.search.now c.requires.there.searching.ready c.args.node c.requires.there.node.0 c.requires.there.node.1 (InOrder c.args.siblings) c.requires.attempts c.loop-place.place c.in-Some.child c.in-Some.ensures.some in (
       omega (arith, c.decreases, falls c.args.search.now.tree.now c.args.node c.in-Some.child (child_deeper c.args.search.now.tree.now (legal_nodes c.args.search.now.tree.now c.requires.there.searching.ready.legal) c.args.node c.in-Some.child is)),
       goes_down c.args.search.now c.args.node c.in-Some.child c.args.trail.now c.loop-place.trail c.args.taken.now c.loop-place.taken is c.loop-place.invariant.same_pairs c.loop-place.invariant.same_slots c.loop-place.invariant.same_taken c.requires.there,
     )
 
 pub count_in_order-loop-place-preserved : goal.count_in_order-loop-place-preserved
 count_in_order-loop-place-preserved t c = record {
-  counted_so_far = more_tried c.args.search.now c.requires.there.searching.ready c.args.node c.requires.there.node.0 c.requires.there.node.1 (InOrder c.args.scan) c.requires.attempts c.loop-place.place c.in-Some.child c.args.counted.now c.loop-place.counted c.count_at.new.counted c.loop-place-test.true c.in-Some.ensures.some c.loop-place.invariant.counted_so_far c.in_ok-count_at.ensures.counted;
+  counted_so_far = more_tried c.args.search.now c.requires.there.searching.ready c.args.node c.requires.there.node.0 c.requires.there.node.1 (InOrder c.args.siblings) c.requires.attempts c.loop-place.place c.in-Some.child c.args.counted.now c.loop-place.counted c.count_at.new.counted c.loop-place-test.true c.in-Some.ensures.some c.loop-place.invariant.counted_so_far c.in_ok-count_at.ensures.counted;
   same_pairs = c.in_ok-count_at.ensures.returns.same ∙ c.loop-place.invariant.same_pairs;
   same_slots = c.count_at.ensures.returns.count ∙ c.loop-place.invariant.same_slots;
   same_taken = c.in_ok-count_at.ensures.returns.noted ∙ c.loop-place.invariant.same_taken;
@@ -65,7 +65,7 @@ count_in_order-loop-place-preserved t c = record {
 
 pub count_in_order-returns-clause-counted : goal.count_in_order-returns-clause-counted
 count_in_order-returns-clause-counted t c node has =
-    more_all c.args.search.now c.requires.there.searching.ready c.args.node node has (InOrder c.args.scan) c.requires.attempts c.args.trail.now.pairs c.requires.there.there c.requires.wanted c.loop-place.place c.args.counted.now c.loop-place.counted c.loop-place-test.false c.loop-place.invariant.counted_so_far
+    more_all c.args.search.now c.requires.there.searching.ready c.args.node node has (InOrder c.args.siblings) c.requires.attempts c.args.trail.now.pairs c.requires.there.there c.requires.wanted c.loop-place.place c.args.counted.now c.loop-place.counted c.loop-place-test.false c.loop-place.invariant.counted_so_far
 
 pub count_by_heads-loop-place-init : goal.count_by_heads-loop-place-init
 count_by_heads-loop-place-init t c = record {

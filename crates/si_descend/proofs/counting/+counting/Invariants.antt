@@ -30,7 +30,7 @@ pub record Invariant (counted pairs slots taken : Type 0) : Type 0 where
 abbrev pub invariant-count_in_order-loop-place : goal.invariant-count_in_order-loop-place
 invariant-count_in_order-loop-place l =
     Invariant
-    (IsUnderway l.search l.node (InOrder l.scan) l.place (λ tried. CountsMoreBelow l.search tried l.fn.counted l.counted))
+    (IsUnderway l.search l.node (InOrder l.siblings) l.place (λ tried. CountsMoreBelow l.search tried l.fn.counted l.counted))
     (l.trail.pairs ≡ l.fn.trail.pairs)
     (l.trail.slots ≡ l.fn.trail.slots)
     (l.taken ≡ l.fn.taken)

@@ -56,7 +56,7 @@ visit_open-overflow_add-result t c =
 
 pub visit_in_order-loop-place-init : goal.visit_in_order-loop-place-init
 visit_in_order-loop-place-init t c = record {
-  found_so_far = none_tried c.args.search.now c.requires.there.searching.ready c.args.node c.requires.there.node.0 c.requires.there.node.1 (InOrder c.args.scan) c.requires.attempts (λ tried. HasFoundBelow c.args.search.now tried c.args.out.now.items c.args.out.now.items 0) (none_yet c.args.search.now c.requires.there.searching.ready c.args.out.now.items);
+  found_so_far = none_tried c.args.search.now c.requires.there.searching.ready c.args.node c.requires.there.node.0 c.requires.there.node.1 (InOrder c.args.siblings) c.requires.attempts (λ tried. HasFoundBelow c.args.search.now tried c.args.out.now.items c.args.out.now.items 0) (none_yet c.args.search.now c.requires.there.searching.ready c.args.out.now.items);
   same_pairs = refl;
   same_slots = refl;
   same_taken = refl;
@@ -72,7 +72,7 @@ visit_in_order-child_in_order-requires-clause-within t c = c.loop-place-test.tru
 
 pub visit_in_order-loop-place-preserved-in_default : goal.visit_in_order-loop-place-preserved-in_default
 visit_in_order-loop-place-preserved-in_default t c = record {
-  found_so_far = one_not_tried c.args.search.now c.requires.there.searching.ready c.args.node c.requires.there.node.0 c.requires.there.node.1 (InOrder c.args.scan) c.requires.attempts c.loop-place.place (λ tried. HasFoundBelow c.args.search.now tried c.args.out.now.items c.loop-place.out.items c.loop-place.count) c.in_default.ensures.none c.loop-place.invariant.found_so_far;
+  found_so_far = one_not_tried c.args.search.now c.requires.there.searching.ready c.args.node c.requires.there.node.0 c.requires.there.node.1 (InOrder c.args.siblings) c.requires.attempts c.loop-place.place (λ tried. HasFoundBelow c.args.search.now tried c.args.out.now.items c.loop-place.out.items c.loop-place.count) c.in_default.ensures.none c.loop-place.invariant.found_so_far;
   same_pairs = c.loop-place.invariant.same_pairs;
   same_slots = c.loop-place.invariant.same_slots;
   same_taken = c.loop-place.invariant.same_taken;
@@ -82,14 +82,14 @@ visit_in_order-loop-place-preserved-in_default t c = record {
 
 pub visit_in_order-visit-requires : goal.visit_in_order-visit-requires
 visit_in_order-visit-requires t c =
-    let is : IsChildOf c.args.search.now.tree.now c.args.node c.in-Some.child = tried_child c.args.search.now c.requires.there.searching.ready c.args.node c.requires.there.node.0 c.requires.there.node.1 (InOrder c.args.scan) c.requires.attempts c.loop-place.place c.in-Some.child c.in-Some.ensures.some in (
+    let is : IsChildOf c.args.search.now.tree.now c.args.node c.in-Some.child = tried_child c.args.search.now c.requires.there.searching.ready c.args.node c.requires.there.node.0 c.requires.there.node.1 (InOrder c.args.siblings) c.requires.attempts c.loop-place.place c.in-Some.child c.in-Some.ensures.some in (
       omega (arith, c.decreases, falls c.args.search.now.tree.now c.args.node c.in-Some.child (child_deeper c.args.search.now.tree.now (legal_nodes c.args.search.now.tree.now c.requires.there.searching.ready.legal) c.args.node c.in-Some.child is)),
       goes_down c.args.search.now c.args.node c.in-Some.child c.args.trail.now c.loop-place.trail c.args.taken.now c.loop-place.taken is c.loop-place.invariant.same_pairs c.loop-place.invariant.same_slots c.loop-place.invariant.same_taken c.requires.there,
     )
 
 pub visit_in_order-loop-place-preserved : goal.visit_in_order-loop-place-preserved
 visit_in_order-loop-place-preserved t c = record {
-  found_so_far = found_more c.args.search.now c.requires.there.searching.ready c.args.node c.requires.there.node.0 c.requires.there.node.1 (InOrder c.args.scan) c.requires.attempts c.loop-place.place c.in-Some.child c.args.out.now.items c.loop-place.out.items c.visit.new.out.items c.loop-place.count c.in_ok-count.field-0 c.loop-place-test.true c.in-Some.ensures.some c.loop-place.invariant.found_so_far c.in_ok-count.ensures.found;
+  found_so_far = found_more c.args.search.now c.requires.there.searching.ready c.args.node c.requires.there.node.0 c.requires.there.node.1 (InOrder c.args.siblings) c.requires.attempts c.loop-place.place c.in-Some.child c.args.out.now.items c.loop-place.out.items c.visit.new.out.items c.loop-place.count c.in_ok-count.field-0 c.loop-place-test.true c.in-Some.ensures.some c.loop-place.invariant.found_so_far c.in_ok-count.ensures.found;
   same_pairs = c.in_ok-count.ensures.returns.same ∙ c.loop-place.invariant.same_pairs;
   same_slots = c.in_ok-count.ensures.returns.count ∙ c.loop-place.invariant.same_slots;
   same_taken = c.in_ok-count.ensures.returns.noted ∙ c.loop-place.invariant.same_taken;
@@ -99,7 +99,7 @@ visit_in_order-loop-place-preserved t c = record {
 
 pub visit_in_order-overflow_add-count : goal.visit_in_order-overflow_add-count
 visit_in_order-overflow_add-count t c =
-    let u : IsUnderway c.args.search.now c.args.node (InOrder c.args.scan) (c.loop-place.place + 1) (λ tried. HasFoundBelow c.args.search.now tried c.args.out.now.items c.visit.new.out.items (c.loop-place.count + c.in_ok-count.field-0)) = found_more c.args.search.now c.requires.there.searching.ready c.args.node c.requires.there.node.0 c.requires.there.node.1 (InOrder c.args.scan) c.requires.attempts c.loop-place.place c.in-Some.child c.args.out.now.items c.loop-place.out.items c.visit.new.out.items c.loop-place.count c.in_ok-count.field-0 c.loop-place-test.true c.in-Some.ensures.some c.loop-place.invariant.found_so_far c.in_ok-count.ensures.found in
+    let u : IsUnderway c.args.search.now c.args.node (InOrder c.args.siblings) (c.loop-place.place + 1) (λ tried. HasFoundBelow c.args.search.now tried c.args.out.now.items c.visit.new.out.items (c.loop-place.count + c.in_ok-count.field-0)) = found_more c.args.search.now c.requires.there.searching.ready c.args.node c.requires.there.node.0 c.requires.there.node.1 (InOrder c.args.siblings) c.requires.attempts c.loop-place.place c.in-Some.child c.args.out.now.items c.loop-place.out.items c.visit.new.out.items c.loop-place.count c.in_ok-count.field-0 c.loop-place-test.true c.in-Some.ensures.some c.loop-place.invariant.found_so_far c.in_ok-count.ensures.found in
     omega (arith, few_below c.args.search.now c.requires.there.searching.ready u.0 c.args.out.now.items c.visit.new.out.items (c.loop-place.count + c.in_ok-count.field-0) u.2)
 
 pub visit_in_order-returns-in_err-count-clause-out_grows : goal.visit_in_order-returns-in_err-count-clause-out_grows
@@ -110,7 +110,7 @@ visit_in_order-returns-in_err-count-clause-out_grows t c =
 
 pub visit_in_order-returns-clause-found : goal.visit_in_order-returns-clause-found
 visit_in_order-returns-clause-found t c node has =
-    found_all c.args.search.now c.requires.there.searching.ready c.args.node node has (InOrder c.args.scan) c.requires.attempts c.args.trail.now.pairs c.requires.there.there c.requires.wanted c.loop-place.place c.args.out.now.items c.loop-place.out.items c.loop-place.count c.loop-place-test.false c.loop-place.invariant.found_so_far
+    found_all c.args.search.now c.requires.there.searching.ready c.args.node node has (InOrder c.args.siblings) c.requires.attempts c.args.trail.now.pairs c.requires.there.there c.requires.wanted c.loop-place.place c.args.out.now.items c.loop-place.out.items c.loop-place.count c.loop-place-test.false c.loop-place.invariant.found_so_far
 
 pub visit_in_order-returns-clause-out_grows : goal.visit_in_order-returns-clause-out_grows
 visit_in_order-returns-clause-out_grows t c = found_grows c.args.search.now c.requires.there.searching.ready c.loop-place.invariant.found_so_far.0 c.args.out.now.items c.loop-place.out.items c.loop-place.count c.loop-place.invariant.found_so_far.2
@@ -180,7 +180,7 @@ pub visit_in_order-returns-in_err-count-clause-full : goal.visit_in_order-return
 visit_in_order-returns-in_err-count-clause-full t c =
     let lack : AtNode c.args.search.now.tree.now c.args.node (λ parent. LacksRoomBelow c.args.search.now (children_of parent.content) c.args.trail.now.pairs c.args.scratch.now c.args.out.now) = λ node has n enough room. c.in_err-count.ensures.full n
     (enough_back n c.args.search.now.tree.now c.args.search.now.slots c.args.trail.now.pairs c.loop-place.trail.pairs c.args.scratch.now c.loop-place.scratch c.loop-place.invariant.same_pairs c.loop-place.invariant.no_less_room enough)
-    (next_fits c.args.search.now c.requires.there.searching.ready c.args.node node has (InOrder c.args.scan) c.requires.attempts c.loop-place.place c.in-Some.child c.args.out.now c.loop-place.out c.loop-place.count c.loop-place-test.true c.in-Some.ensures.some c.loop-place.invariant.found_so_far c.loop-place.invariant.no_less_place room) in
+    (next_fits c.args.search.now c.requires.there.searching.ready c.args.node node has (InOrder c.args.siblings) c.requires.attempts c.loop-place.place c.in-Some.child c.args.out.now c.loop-place.out c.loop-place.count c.loop-place-test.true c.in-Some.ensures.some c.loop-place.invariant.found_so_far c.loop-place.invariant.no_less_place room) in
     on_err _ lack
 
 pub visit_in_order-returns-in_err-count-clause-keeps : goal.visit_in_order-returns-in_err-count-clause-keeps

@@ -32,7 +32,7 @@ pub record Invariant (found pairs slots taken kept wider : Type 0) : Type 0 wher
 abbrev pub invariant-visit_in_order-loop-place : goal.invariant-visit_in_order-loop-place
 invariant-visit_in_order-loop-place l =
     Invariant
-    (IsUnderway l.search l.node (InOrder l.scan) l.place (λ tried. HasFoundBelow l.search tried l.fn.out.items l.out.items l.count))
+    (IsUnderway l.search l.node (InOrder l.siblings) l.place (λ tried. HasFoundBelow l.search tried l.fn.out.items l.out.items l.count))
     (l.trail.pairs ≡ l.fn.trail.pairs)
     (l.trail.slots ≡ l.fn.trail.slots)
     (l.taken ≡ l.fn.taken)

@@ -17,20 +17,20 @@ use Rattle.si_query.proofs.literals.equation.Goals as goal
 pub close-requires-clause-inside : goal.close-requires-clause-inside
 close-requires-clause-inside g c =
     let pairs = g.T.SymTable.pairs c.args.table.now in
-    let h = found _ c.in_ok-behind.ensures c.in-Some.is in
+    let h = found _ c.in_ok-after.ensures c.in-Some.is in
     let k = found _ c.in_ok-rest.ensures c.in-Some-2.is in
     inside_written pairs _ c.args.writer.now c.open.new.self c.term-2.new.writer c.in_ok-gap.ensures (terms.row (h.term ∷ k.term ∷ []))
     (writes_two pairs h.term k.term c.open.new.self c.term.new.writer c.term-2.new.writer h.flat k.flat)
 
 pub close-requires-clause-short : goal.close-requires-clause-short
 close-requires-clause-short g c =
-    let h = found _ c.in_ok-behind.ensures c.in-Some.is in
+    let h = found _ c.in_ok-after.ensures c.in-Some.is in
     let k = found _ c.in_ok-rest.ensures c.in-Some-2.is in
     omega (
       arith,
       h.spends.cells,
       k.spends.cells,
-      left_shorter c.in-Some.behind.now c.in-Some-sign.next.now c.in-Some-sign.ensures,
+      left_shorter c.in-Some.after.now c.in-Some-sign.next.now c.in-Some-sign.ensures,
       ap length c.in_ok-gap.ensures.cells,
       length-append c.args.writer.now.cells (Query 0 ∷ []),
       c.requires.cells,
@@ -39,7 +39,7 @@ close-requires-clause-short g c =
 pub returns : goal.returns
 returns g c =
     let pairs = g.T.SymTable.pairs c.args.table.now in
-    let h = found _ c.in_ok-behind.ensures c.in-Some.is in
+    let h = found _ c.in_ok-after.ensures c.in-Some.is in
     let k = found _ c.in_ok-rest.ensures c.in-Some-2.is in
     let put = found _ c.close.ensures c.in-Some-close.is in
     let p = c.is_positive.result in

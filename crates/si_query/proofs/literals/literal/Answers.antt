@@ -5,7 +5,7 @@ use Rattle.si_query.proofs.literals.literal.Goals as goal
 
 pub returns-in-Some : goal.returns-in-Some
 returns-in-Some g c =
-    tilde_read (g.T.SymTable.pairs c.args.table.now) c.args.tokens.now c.args.writer.now c.negated.new.writer c.negated.result c.in-Some.behind.now (mark_front c.in-Some.ensures) c.negated.ensures
+    tilde_read (g.T.SymTable.pairs c.args.table.now) c.args.tokens.now c.args.writer.now c.negated.new.writer c.negated.result c.in-Some.after.now (mark_front c.in-Some.ensures) c.negated.ensures
 
 pub returns-in-Some-2 : goal.returns-in-Some-2
 returns-in-Some-2 g c =

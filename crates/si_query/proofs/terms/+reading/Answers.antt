@@ -43,7 +43,7 @@ applied-returns-in_default g t c =
 
 pub applied-returns-in-Some-mark_at : goal.applied-returns-in-Some-mark_at
 applied-returns-in-Some-mark_at g t c =
-    applied_all (g.T.SymTable.pairs c.args.table.now) c.args.tokens.now c.args.writer.now c.arguments.new.writer c.in-Some-2.count c.in-Some.inside.now c.in-Some-2.behind.now c.in-Some-mark_at.rest.now
+    applied_all (g.T.SymTable.pairs c.args.table.now) c.args.tokens.now c.args.writer.now c.arguments.new.writer c.in-Some-2.count c.in-Some.inside.now c.in-Some-2.after.now c.in-Some-mark_at.rest.now
     (mark_front c.in-Some.ensures) (mark_front c.in-Some-mark_at.ensures) (found _ c.in_ok-count.ensures c.in-Some-2.is)
 
 pub arguments-loop-rest-init : goal.arguments-loop-rest-init
@@ -52,8 +52,8 @@ arguments-loop-rest-init g t c =
 
 pub arguments-loop-rest-preserved : goal.arguments-loop-rest-preserved
 arguments-loop-rest-preserved g t c = (
-  along_next (g.T.SymTable.pairs c.args.table.now) c.args.tokens.now c.args.writer.now c.loop-rest.writer c.term-in-Some-mark_at.new.writer c.loop-rest.count c.loop-rest.left.now c.in-Some-mark_at.rest.now c.in-Some-2.behind.now
-      c.loop-rest.invariant.0 (mark_front c.in-Some-mark_at.ensures) (found _ c.in_ok-behind.ensures c.in-Some-2.is),
+  along_next (g.T.SymTable.pairs c.args.table.now) c.args.tokens.now c.args.writer.now c.loop-rest.writer c.term-in-Some-mark_at.new.writer c.loop-rest.count c.loop-rest.left.now c.in-Some-mark_at.rest.now c.in-Some-2.after.now
+      c.loop-rest.invariant.0 (mark_front c.in-Some-mark_at.ensures) (found _ c.in_ok-after.ensures c.in-Some-2.is),
   omega arith,
 )
 

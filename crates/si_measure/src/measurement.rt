@@ -8,7 +8,7 @@ ghost use Rattle.si_measure.specs.Measurements.{kind_text, IsNamedBy};
 pub(crate) const LARGEST: u32 = 1_000_000;
 
 /// Which equations between towers are solved.
-#[derive(Clone, Copy, Debug, PartialEq, Eq)]
+#[derive(Clone, Copy)]
 pub(crate) enum Shape {
     /// One tower.
     One,
@@ -20,7 +20,7 @@ pub(crate) enum Shape {
 }
 
 /// Which terms are solved.
-#[derive(Clone, Copy, Debug, PartialEq, Eq)]
+#[derive(Clone, Copy)]
 pub(crate) enum Kind {
     /// The two sides of the equations of a shape.
     Towers(Shape),
@@ -29,7 +29,7 @@ pub(crate) enum Kind {
 }
 
 /// One line of the input.
-#[derive(Clone, Copy, Debug)]
+#[derive(Clone, Copy)]
 pub(crate) struct Measurement {
     pub(crate) kind: Kind,
     pub(crate) size: u32,

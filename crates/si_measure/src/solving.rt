@@ -1,14 +1,16 @@
 // Two terms that are solved so many times.
-ghost use Rattle.std.specs.Prelude.{IfOk};
-ghost use Rattle.si_measure.specs.Answers.{Solves};
+ghost use Rattle.std.specs.Prelude.{◌≡◌, ◌≤◌, [], IfOk};
+ghost use Rattle.si_flat.specs.Cells.{IsWhole};
+ghost use Rattle.si_unify.specs.Solving.{AreInRange, slot_count};
+ghost use Rattle.si_measure.specs.Answers.{Solves, Tells};
 
-use si_flat::Flat;
+use si_flat::{Cell, Flat};
 use si_trail::Trail;
 use si_unify::{Scratch, Slots, solve_with};
 use std::alloc::{AllocError, Global};
 
 /// What was solved, and the answer.
-#[derive(Clone, Copy, Debug)]
+#[derive(Clone, Copy)]
 pub(crate) struct Measured {
     /// The number of cells of the one term.
     pub(crate) left: usize,
@@ -50,19 +52,56 @@ pub(crate) fn solve_often(
     if !slots.are_in_range(right) {
         return Ok(unsolved);
     }
-    let mut scratch = Scratch::new(alloc);
+    Ok(Measured {
+        bindings: bindings_of(alloc, &slots, left, right, times)?,
+        ..unsolved
+    })
+}
+
+/// The number of bindings that make two terms equal, whose variables have slots.
+fn bindings_of(
+    alloc: Global,
+    slots: &Slots,
+    left: &[Cell],
+    right: &[Cell],
+    times: u32,
+) -> Result<Option<usize>, AllocError>
+    requires left { IsWhole left.now }
+    requires right { IsWhole right.now }
+    requires left_range { AreInRange slots.now left.now }
+    requires right_range { AreInRange slots.now right.now }
+    ensures { IfOk result (Tells slots.now left.now right.now) }
+{
     let mut trail = Trail::with_slots(alloc, slots.count())?;
+    let mut scratch = Scratch::new(alloc);
+    solve_over(&mut scratch, &mut trail, slots, left, right, times)
+}
+
+/// The same over no bindings, in memory that is lent.
+fn solve_over<'a>(
+    scratch: &mut Scratch,
+    trail: &mut Trail<&'a [Cell]>,
+    slots: &Slots,
+    left: &'a [Cell],
+    right: &'a [Cell],
+    times: u32,
+) -> Result<Option<usize>, AllocError>
+    requires left { IsWhole left.now }
+    requires right { IsWhole right.now }
+    requires left_range { AreInRange slots.now left.now }
+    requires right_range { AreInRange slots.now right.now }
+    requires room { slot_count slots.now ≤ trail.old.slots }
+    requires unbound { trail.old.pairs ≡ [] }
+    ensures { IfOk result (Tells slots.now left.now right.now) }
+{
     for _ in 1..times {
-        if !solve_with(&mut scratch, &mut trail, &slots, left, right)? {
-            return Ok(unsolved);
+        if !solve_with(scratch, trail, slots, left, right)? {
+            return Ok(None);
         }
         trail.undo(0);
     }
-    if !solve_with(&mut scratch, &mut trail, &slots, left, right)? {
-        return Ok(unsolved);
+    if !solve_with(scratch, trail, slots, left, right)? {
+        return Ok(None);
     }
-    Ok(Measured {
-        bindings: Some(trail.mark()),
-        ..unsolved
-    })
+    Ok(Some(trail.mark()))
 }

@@ -1,2 +1,3 @@
 mod FirstLeaf
 mod Vectors
+mod Postings

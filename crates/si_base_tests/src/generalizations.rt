@@ -4,25 +4,25 @@ use si_mscg::generalise;
 use std::alloc::{AllocError, Global};
 use std::test::Fail;
 
-const A: Cell = Cell::App {
+pub const A: Cell = Cell::App {
     sym: 6,
     arity: 0,
     len: 1,
 };
 
-const B: Cell = Cell::App {
+pub const B: Cell = Cell::App {
     sym: 8,
     arity: 0,
     len: 1,
 };
 
-const C: Cell = Cell::App {
+pub const C: Cell = Cell::App {
     sym: 10,
     arity: 0,
     len: 1,
 };
 
-const G: Cell = Cell::App {
+pub const G: Cell = Cell::App {
     sym: 4,
     arity: 1,
     len: 2,

@@ -7,6 +7,8 @@ mod devices;
 #[cfg(test)]
 mod generalizations;
 #[cfg(test)]
+mod insertions;
+#[cfg(test)]
 mod keys;
 #[cfg(test)]
 mod lanes;

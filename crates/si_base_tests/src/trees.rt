@@ -20,12 +20,12 @@ const F: Cell = Cell::App {
 
 const F_HEAD: Head = Head::Sym { sym: 2, arity: 2 };
 
-const FIRST: Posting = Posting {
+pub const FIRST: Posting = Posting {
     clause: 0,
     entry: 0,
 };
 
-const SECOND: Posting = Posting {
+pub const SECOND: Posting = Posting {
     clause: 1,
     entry: 5,
 };

@@ -5,6 +5,7 @@ pub mod ChangesProved
 pub mod RemovalsProved
 pub mod InsertionsProved
 pub mod OpenNodesProved
+pub mod OpenInEachProved
 pub mod CountsProved
 pub mod KeptProved
 pub mod SharedProved

@@ -45,7 +45,7 @@ only_generalization = (
   (λ h. let named = h.2.renames 0 (inl refl) in no_variable named.0 (sym (ap first h.1.takes) ∙ named.1)),
 )
 
-no_entry : (m n : ℕ) → IsAmong (ind n ∷ []) (entry m) → ⊥
+pub no_entry : (m n : ℕ) → IsAmong (ind n ∷ []) (entry m) → ⊥
 no_entry m n (inl e) = cc
 no_entry m n (inr h) = h
 

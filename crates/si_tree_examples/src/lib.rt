@@ -18,7 +18,7 @@ pub use descents::answered_postings;
 pub use insertions::inserted_terms;
 pub use kept::{changed_clauses, kept_clauses};
 pub use numbers::renumbered_trees;
-pub use open_nodes::{counted_nodes, open_paths};
+pub use open_nodes::{counted_nodes, nodes_of_each_tree, open_paths};
 pub use removals::{joined_nodes, removed_postings};
 pub use splits::{split_bindings, wrong_splits};
 pub use trees::{illegal_trees, legal_trees};

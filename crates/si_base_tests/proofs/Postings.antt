@@ -1,0 +1,90 @@
+-- Which postings are stored in a tree that gains and loses them one by one, as the tests want it.
+use Rattle.std.proofs.Common.{◌≡◌, ◌<◌, ◌⊎◌, ◌++◌, ℕ, suc, List, [], ◌∷◌, inl, inr, ap, ◌∙◌, subst, arith}
+use Rattle.si_defs.specs.Substitutions.{IsAmong}
+use Rattle.si_defs.proofs.ListLaws.{among_either}
+use Rattle.si_flat.specs.declared.Cell.{Cell}
+use Rattle.si_flat.specs.Cells.{Term, StandsFor, cells_of}
+use Rattle.si_legal.specs.declared.Posting.{Posting}
+use Rattle.si_legal.specs.Trees.{Tree, IsLeaf, StandsIn}
+use Rattle.si_legal.specs.Legal.{IsLegal, IsLeafTerm}
+use Rattle.si_legal.specs.StoredSets.{AreUnder, IsUnder, Gains, Loses}
+use Rattle.si_legal.proofs.PathLaws.{one_node}
+use Rattle.si_changes.proofs.EqualTerms.{term_or_not}
+use Rattle.si_changes.proofs.PostingLaws.{among_without}
+use Rattle.si_changes.proofs.StoredLaws.{one_leaf}
+use Rattle.si_tree.specs.NewTrees.{IsRootAlone}
+use Rattle.si_tree.specs.Changes.{HasPosting, DropsPosting}
+use Rattle.si_tree.proofs.RootLaws.{no_leaf}
+use Rattle.si_insert.specs.Inserting.{MayInsert, Inserts}
+use Rattle.si_insert.proofs.AnewLaws.{stored_there}
+
+-- all that are stored are of clauses below this one
+abbrev pub AreBelow : Tree Term → ℕ → Type 0
+AreBelow tree n = (t : Term) (p : Posting) → IsUnder tree t p → p.clause < n
+
+pub none_stored : (tree : Tree Term) → IsRootAlone tree → AreBelow tree 0
+none_stored tree alone t p h = absurd (no_leaf tree h.0 t h.1.0 alone h.1.1)
+
+-- ---- under one term
+among_leaf : (tree : Tree Term) (t : Term) (ps : List Posting) (q : Posting) → IsLegal tree → AreUnder tree t ps → IsUnder tree t q → IsAmong ps q
+among_leaf tree t ps q legal (inl there) h =
+    let same = legal.terms_differ h.0 there.0 t h.1.0 ps h.1.1 there.1 in
+    let here : IsLeaf tree there.0 t h.1.0 = subst (λ k. IsLeaf tree k t h.1.0) same h.1.1 in
+    subst (λ qs. IsAmong qs q) (one_leaf tree there.0 t t h.1.0 ps here there.1).1 h.1.2
+among_leaf tree t ps q legal (inr none) h = absurd (none.0 h.0 h.1.0 h.1.1)
+
+below_in : (tree : Tree Term) (t : Term) (ps : List Posting) (n : ℕ) (q : Posting) → AreUnder tree t ps → AreBelow tree n → IsAmong ps q → q.clause < n
+below_in tree t ps n q (inl there) below a = below t q (there.0, (ps, there.1, a))
+below_in tree t ps n q (inr none) below a = absurd (subst (λ qs. IsAmong qs q) none.1 a)
+
+-- ---- what comes and goes
+pub gained : (old new : Tree Term) (t : Term) (p : Posting) → IsLegal new → AreBelow old p.clause → Gains old new t p → AreBelow new (suc p.clause)
+gained old new t p legal below g u q h = elim (term_or_not u t) as (λ _. q.clause < suc p.clause) [
+  | inl same ↦ here (among_either g.before p q (among_leaf new t (g.before ++ p ∷ []) q legal g.last (subst (λ x. IsUnder new x q) same h)))
+  | inr other ↦ omega (arith, below u q (stored_there new old u q (λ ps k. (g.others u ps other).1 k) h))
+] where
+  here : IsAmong g.before q ⊎ (p ≡ q) → q.clause < suc p.clause
+  here (inl a) = omega (arith, below_in old t g.before p.clause q g.had below a)
+  here (inr e) = omega (arith, ap (λ r. r.clause) e)
+
+pub lost : (old new : Tree Term) (t : Term) (p : Posting) (n : ℕ) → IsLegal new → AreBelow old n → Loses old new t p → AreBelow new n
+lost old new t p n legal below l u q h = elim (term_or_not u t) as (λ _. q.clause < n) [
+  | inl same ↦ below_in old t (l.before ++ p ∷ l.after) n q l.had below (among_without l.before l.after p q (among_leaf new t (l.before ++ l.after) q legal l.has (subst (λ x. IsUnder new x q) same h)))
+  | inr other ↦ below u q (stored_there new old u q (λ ps k. (l.others u ps other).1 k) h)
+]
+
+pub dropped : (old new : Tree Term) (key : ℕ) (t : Term) (p : Posting) (n : ℕ) → IsLegal new → AreBelow old n → StandsIn old key t p → DropsPosting old new key p → AreBelow new n
+dropped old new key t p n legal below stands d = lost old new t p n legal below (d.loses t (record {
+  node = stands.1.node;
+  above = stands.1.above;
+  reached = stands.1.reached;
+  content = ap (λ m. m.content) (one_node old key stands.1.node d.changes.node stands.1.reached.1 d.changes.had) ∙ d.changes.content;
+  term = stands.1.term;
+}))
+
+-- ---- insertions
+stands_for : (cells : List Cell) (t : Term) → cells ≡ cells_of t → IsLeafTerm t → StandsFor cells t
+stands_for cells t e is = record { cells_are = e; sound = is.sound }
+
+pub may_insert : (tree : Tree Term) (cells : List Cell) (t : Term) (p : Posting) → cells ≡ cells_of t → IsLeafTerm t → AreBelow tree p.clause → MayInsert tree cells p
+may_insert tree cells t p e is below = (
+  t,
+  stands_for cells t e is,
+  record { leaf_term = is; not_stored = λ u h. omega (arith, below u p h) },
+)
+
+module _ (old new : Tree Term) (cells : List Cell) (t : Term) (p : Posting) (key : ℕ) (e : cells ≡ cells_of t) (is : IsLeafTerm t) (i : Inserts old new cells p key) where
+  pub inserted : IsLegal new → AreBelow old p.clause → AreBelow new (suc p.clause)
+  inserted legal below = gained old new t p legal below (i.gains t (stands_for cells t e is))
+
+  pub stands_in : StandsIn new key t p
+  stands_in = i.stands t (stands_for cells t e is)
+
+pub has_posting : (tree : Tree Term) (key : ℕ) (t : Term) (p : Posting) → StandsIn tree key t p → HasPosting tree key p
+has_posting tree key t p stands = record {
+  node = stands.1.node;
+  postings = stands.0;
+  has = stands.1.reached.1;
+  content = stands.1.content;
+  among = stands.2;
+}

@@ -7,7 +7,7 @@ use Rattle.si_flat.specs.Cells.{Symbol, Variable, Term, StandsFor}
 use Rattle.si_flat.specs.Rows.{CellPair}
 use Rattle.si_trail.specs.Trails.{Trail, value_at, HasDistinctSlots}
 use Rattle.si_unify.specs.declared.slots.Slots.{Slots}
-use Rattle.si_unify.specs.Solving.{Pairs}
+use Rattle.si_unify.specs.Solving.{Pairs, AllowsSolving}
 use Rattle.si_unify.proofs.Reading.{one_term}
 use Rattle.si_unify.proofs.Answering.{front_of}
 use Rattle.si_legal.specs.Bindings.{StandForBindings}
@@ -16,7 +16,7 @@ use Rattle.si_legal.specs.OpenNodes.{RenamesEntry}
 use Rattle.si_changes.proofs.Frames.{legal_nodes}
 use Rattle.si_descend.specs.declared.search.Search.{Search}
 use Rattle.si_descend.specs.Descending.{Freezes, HasRoom, Renames}
-use Rattle.si_fit.specs.Fitting.{AllowsSolving, HasFitted}
+use Rattle.si_fit.specs.Fitting.{HasFitted}
 use Rattle.si_descend.specs.Renaming.{FreezesQuery, bound_variables, IsRenaming, IsRenamingFirst, IsTaken, AreTaken}
 use Rattle.si_descend.specs.Searching.{IsReady, KeepsApart, NotesTaken, HasComeTo, HasEntered}
 use Rattle.si_descend.proofs.Entering.{numbered, entered_shows, entered_open, open_entered}

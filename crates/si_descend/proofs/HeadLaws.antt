@@ -13,7 +13,7 @@ use Rattle.si_flat.specs.Cells.{Symbol, Variable, query, entry, ind, same_variab
 use Rattle.si_flat.specs.Rows.{left_sides}
 use Rattle.si_trail.specs.Trails.{value_at}
 use Rattle.si_unify.specs.declared.slots.Slots.{Slots}
-use Rattle.si_unify.specs.Solving.{Pairs, IsBinding}
+use Rattle.si_unify.specs.Solving.{Pairs, IsBinding, AllowsSolving}
 use Rattle.si_legal.specs.Bindings.{indicator}
 use Rattle.si_legal.specs.Legal.{ChildBinds, IsOpenBelow}
 use Rattle.si_legal.specs.Trees.{IsPath, path_term}
@@ -27,9 +27,8 @@ use Rattle.si_tree.specs.declared.node.Head.{Head}
 use Rattle.si_tree.specs.declared.node.Head.TheVariants.{Sym, Var}
 use Rattle.si_tree.specs.Heads.{IsChildBy}
 use Rattle.si_tree.specs.Reading.{AtNode, split_of}
-use Rattle.si_unify.proofs.Places.{all_at as value_holds}
+use Rattle.si_unify.proofs.Places.{value_holds}
 use Rattle.si_fit.specs.Ends.{EndsAt}
-use Rattle.si_fit.specs.Fitting.{AllowsSolving}
 use Rattle.si_fit.proofs.EndLaws.{value_same}
 use Rattle.si_descend.specs.declared.heads.Wanted.{Wanted}
 use Rattle.si_descend.specs.declared.search.Search.{Search}

@@ -10,7 +10,7 @@ use Rattle.si_defs.proofs.ListLaws.{all_at, among_front, among_back, among_parts
 use Rattle.si_flat.specs.Cells.{Symbol, Variable, query, entry, ind, same_variable, Term, Terms, IsSound, AreSound, StandsFor}
 use Rattle.si_trail.specs.Trails.{HasDistinctSlots}
 use Rattle.si_unify.specs.declared.slots.Slots.{Slots}
-use Rattle.si_unify.specs.Solving.{Pairs, IsInRange}
+use Rattle.si_unify.specs.Solving.{Pairs, IsInRange, AllowsSolving}
 use Rattle.si_unify.proofs.Reading.{one_term}
 use Rattle.si_legal.specs.Bindings.{indicators, substitution_of, applied}
 use Rattle.si_legal.specs.Counts.{node_count}
@@ -23,7 +23,6 @@ use Rattle.si_changes.proofs.HeadLaws.{image_keeps, indicator_variable}
 use Rattle.si_changes.proofs.OpenLaws.{path_node, root_no_child}
 use Rattle.si_changes.proofs.Permuted.{among_or_not}
 use Rattle.si_changes.proofs.ComposeLaws.{substituted_twice, is_substituted, applied_from, indicator_in}
-use Rattle.si_fit.specs.Fitting.{AllowsSolving}
 use Rattle.si_descend.specs.declared.search.Search.{Search}
 use Rattle.si_descend.specs.Descending.{Freezes, HasRoom, SolvesFrom}
 use Rattle.si_descend.specs.Searching.{IsReady, HasComeTo, IsOpenAt, AreOpenBelow, depth}

@@ -11,7 +11,7 @@ use Rattle.si_flat.specs.declared.Cell.TheVariants as cell
 use Rattle.si_flat.specs.Cells.{Symbol, Variable, query, entry, ind, same_variable, Term}
 use Rattle.si_trail.specs.Trails.{value_at, HasDistinctSlots, IsSlotOf}
 use Rattle.si_unify.specs.declared.slots.Slots.{Slots}
-use Rattle.si_unify.specs.Solving.{Pairs, slot_of, variable_of, is_frozen, IsInRange, CellIsInRange, AreInRange, IsSolution}
+use Rattle.si_unify.specs.Solving.{Pairs, slot_of, variable_of, is_frozen, IsInRange, CellIsInRange, AreInRange, IsSolution, AllowsSolving}
 use Rattle.si_unify.specs.Spots.{cell_slot, IsUnbound}
 use Rattle.si_unify.proofs.Lists.{apart_from}
 use Rattle.si_unify.proofs.Places.{whole_at, first_cell, cell-at, inside, in_range-at}
@@ -19,7 +19,6 @@ use Rattle.si_unify.proofs.Solutions.{lt_tells}
 use Rattle.si_legal.specs.OpenNodes.{RenamesEntry}
 use Rattle.si_descend.specs.declared.variants.Became.TheVariants.{NoEntry, Variable as Same, Term as Other}
 use Rattle.si_fit.specs.Ends.{EndsAt}
-use Rattle.si_fit.specs.Fitting.{AllowsSolving}
 use Rattle.si_descend.specs.Renaming.{FreezesQuery, bound_variables, IsRenamingFirst, IsRenaming, BindsEntry, HasBecome, IsTaken, AreTaken, Takes}
 use Rattle.si_fit.proofs.EndLaws.{no_cell, value_same}
 use Rattle.si_descend.proofs.FreeLaws.{value_at-last, value_at-others, is_free, some_solution}

@@ -16,7 +16,7 @@ use Rattle.si_flat.proofs.Subterms.{length-cells_of}
 use Rattle.si_flat.proofs.VariableLaws.{variable_is}
 use Rattle.si_flat.proofs.FirstPlaces.{among_firsts}
 use Rattle.si_unify.specs.declared.slots.Slots.{Slots}
-use Rattle.si_unify.specs.Solving.{Pairs, slot_count, slot_of, variable_of, is_frozen, IsInRange, AreInRange, Equalizes, IsBinding, RanksBelow}
+use Rattle.si_unify.specs.Solving.{Pairs, slot_count, slot_of, variable_of, is_frozen, IsInRange, AreInRange, Equalizes, IsBinding, RanksBelow, AllowsSolving}
 use Rattle.si_unify.proofs.Places.{variable_of-slot_of, first_cell, cell-at, whole_at}
 use Rattle.si_unify.proofs.Reading.{one_term}
 use Rattle.si_legal.specs.declared.Posting.{Posting}
@@ -30,7 +30,6 @@ use Rattle.si_changes.proofs.Frames.{legal_nodes}
 use Rattle.si_changes.proofs.OpenLaws.{open_opened, opened_low}
 use Rattle.si_descend.specs.Answers.{Finds, Retrieves, IsStoredAnswer}
 use Rattle.si_descend.specs.Descending.{HasRoomFor, ShowsPath, IsQuery, ShowsAbove}
-use Rattle.si_fit.specs.Fitting.{AllowsSolving}
 use Rattle.si_descend.proofs.Along.{is_step}
 use Rattle.si_descend.proofs.Entering.{one_row, term_in_range}
 use Rattle.si_descend.proofs.Openness.{of_kind}

@@ -7,7 +7,7 @@ use Rattle.si_flat.specs.Cells.{query, Term, StandsFor}
 use Rattle.si_flat.specs.Flattened.{IsNumberedBy}
 use Rattle.si_trail.specs.Trails.{HasDistinctSlots}
 use Rattle.si_unify.specs.declared.slots.Slots.{Slots}
-use Rattle.si_unify.specs.Solving.{Pairs}
+use Rattle.si_unify.specs.Solving.{Pairs, AllowsSolving}
 use Rattle.si_unify.proofs.Reading.{one_term}
 use Rattle.si_legal.specs.Trees.{Node, Tree, HasNode, IsPath, path_term}
 use Rattle.si_legal.specs.OpenNodes.{IsOpen}
@@ -15,7 +15,6 @@ use Rattle.si_changes.proofs.Frames.{legal_nodes}
 use Rattle.si_changes.proofs.StoredLaws.{path_start}
 use Rattle.si_descend.specs.declared.search.Search.{Search}
 use Rattle.si_descend.specs.Descending.{HasRoom, Renames, ShowsAbove}
-use Rattle.si_fit.specs.Fitting.{AllowsSolving}
 use Rattle.si_descend.specs.Renaming.{IsRenaming}
 use Rattle.si_descend.specs.Searching.{IsReady, KeepsApart, HasComeTo, IsClosedAt}
 use Rattle.si_descend.proofs.Entered.{variants_freeze}

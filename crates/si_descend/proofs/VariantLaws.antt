@@ -13,8 +13,8 @@ use Rattle.si_flat.specs.Flattened.{IsNumberedBy}
 use Rattle.si_flat.specs.Rows.{left_sides}
 use Rattle.si_trail.specs.Trails.{value_at, HasDistinctSlots}
 use Rattle.si_unify.specs.declared.slots.Slots.{Slots}
-use Rattle.si_unify.specs.Solving.{Pairs, slot_of, variable_of, is_frozen, IsInRange, Equalizes, IsBinding, RanksBelow, IsSolution}
-use Rattle.si_unify.proofs.Places.{all_at as value_holds, variable_of-slot_of}
+use Rattle.si_unify.specs.Solving.{Pairs, slot_of, variable_of, is_frozen, IsInRange, Equalizes, IsBinding, RanksBelow, IsSolution, AllowsSolving}
+use Rattle.si_unify.proofs.Places.{value_holds, variable_of-slot_of}
 use Rattle.si_legal.specs.Bindings.{indicator}
 use Rattle.si_legal.specs.Trees.{Tree, Path, IsPath, path_term}
 use Rattle.si_legal.specs.Legal.{IsOpenBelow}
@@ -24,7 +24,6 @@ use Rattle.si_legal.proofs.SplitLaws.{binding_left}
 use Rattle.si_changes.proofs.Frames.{HasLegalNodes}
 use Rattle.si_changes.proofs.ComposeLaws.{same_substituted, applied_from, right_applied}
 use Rattle.si_descend.specs.Descending.{HasRoom, ShowsPath}
-use Rattle.si_fit.specs.Fitting.{AllowsSolving}
 use Rattle.si_descend.specs.Renaming.{FreezesQuery, bound_variables, IsRenaming}
 use Rattle.si_descend.proofs.Tabulated.{variable_tells, substituted_none}
 use Rattle.si_descend.proofs.Along.{is_step, solves_path_term}

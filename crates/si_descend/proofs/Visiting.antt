@@ -17,8 +17,7 @@ use Rattle.si_descend.specs.declared.search.Search.{Search}
 use Rattle.si_descend.specs.Answers.{CountsBelow, IsAnswerBelow}
 use Rattle.si_legal.proofs.PathLaws.{one_node}
 use Rattle.si_unify.specs.declared.slots.Slots.{Slots}
-use Rattle.si_unify.specs.Solving.{Pairs}
-use Rattle.si_fit.specs.Fitting.{AllowsSolving}
+use Rattle.si_unify.specs.Solving.{Pairs, AllowsSolving}
 use Rattle.si_descend.specs.Searching.{IsReady, HasComeTo, IsAboveNode, IsAtNode, IsOpenAt, IsClosedAt, HasFound, HasFoundBelow}
 use Rattle.si_descend.proofs.Entered.{still_noted}
 use Rattle.si_descend.proofs.Below.{IsChildOf}

@@ -8,7 +8,7 @@ use Rattle.si_flat.specs.declared.Cell.{Cell}
 use Rattle.si_flat.specs.Cells.{Term, StandsFor}
 use Rattle.si_trail.specs.Trails.{Trail}
 use Rattle.si_unify.specs.declared.slots.Slots.{Slots}
-use Rattle.si_unify.specs.Solving.{Pairs}
+use Rattle.si_unify.specs.Solving.{Pairs, AllowsSolving}
 use Rattle.si_unify.specs.Rooms.{SolverRoom}
 use Rattle.si_legal.specs.declared.Posting.{Posting}
 use Rattle.si_legal.specs.Counts.{node_count}
@@ -20,7 +20,7 @@ use Rattle.si_descend.specs.declared.search.Search.{Search}
 use Rattle.si_descend.specs.Descending.{Freezes, HasRoom, ShowsPath, IsQueryTerm}
 use Rattle.si_descend.specs.Lending.{IsEnoughForTree, HasRoomForAll, HasRoomForAnswers}
 use Rattle.si_descend.specs.Answers.{Finds, CountsBelow, IsAnswerBelow}
-use Rattle.si_fit.specs.Fitting.{AllowsSolving, HasSolution}
+use Rattle.si_fit.specs.Fitting.{HasSolution}
 use Rattle.si_tree.specs.Reading.{IsNode, AtNode}
 use Rattle.si_descend.specs.Renaming.{AreTaken, IsRenaming}
 

@@ -9,7 +9,7 @@ ghost use Rattle.si_descend.specs.Counting.{CountsAnswers, HasCounted};
 ghost use Rattle.si_unify.specs.Rooms.{IsNoLessRoom};
 ghost use Rattle.si_descend.specs.Lending.{HasRoomForAnswers, IsEnoughForTree, IsTableFor};
 ghost use Rattle.si_descend.specs.Descending.{Freezes, IsQuery, MayDescend, ShowsAbove};
-ghost use Rattle.si_fit.specs.Fitting.{AllowsSolving};
+ghost use Rattle.si_unify.specs.Solving.{AllowsSolving};
 ghost use Rattle.si_descend.specs.Searching.{IsReady, KeepsApart, NotesTaken, HasFound, LacksRoom};
 
 use crate::counting::{Counted, count_at};

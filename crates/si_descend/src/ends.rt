@@ -7,9 +7,9 @@ ghost use Rattle.si_flat.specs.declared.Cell.TheVariants.{Ind};
 ghost use Rattle.si_flat.specs.Cells.{IsWhole};
 ghost use Rattle.si_flat.specs.Rows.{left_sides};
 ghost use Rattle.si_tree.specs.Reading.{IsNode};
-ghost use Rattle.si_unify.specs.Solving.{AreInRange};
+ghost use Rattle.si_unify.specs.Solving.{AreInRange, AllowsSolving};
 ghost use Rattle.si_unify.specs.Spots.{cell_slot};
-ghost use Rattle.si_fit.specs.Fitting.{AllowsSolving, AreRowsInRange};
+ghost use Rattle.si_fit.specs.Fitting.{AreRowsInRange};
 ghost use Rattle.si_descend.specs.Searching.{IsReady};
 ghost use Rattle.si_descend.specs.Subtrees.{AddsEnds, AreAllOpen, AreClear, AreEndsOf, EndsFree, HasClearValue, IsClear};
 

@@ -2,7 +2,7 @@
 ghost use Rattle.std.specs.Prelude.{◌≡◌, ◌↔◌, Some, IsTrue, length};
 ghost use Rattle.si_flat.specs.Cells.{IsWhole};
 ghost use Rattle.si_tree.specs.Reading.{IsNode};
-ghost use Rattle.si_fit.specs.Fitting.{AllowsSolving};
+ghost use Rattle.si_unify.specs.Solving.{AllowsSolving};
 ghost use Rattle.si_descend.specs.Heads.{first_of, CannotHave, IsUnwanted, IsWanted, KeepsVariables};
 
 use crate::search::Search;

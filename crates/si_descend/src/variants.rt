@@ -2,7 +2,7 @@
 ghost use Rattle.std.specs.Prelude.{◌≡◌, ◌+◌, ◌<◌, ◌≤◌, ◌↔◌, IsTrue, length};
 ghost use Rattle.si_defs.specs.Substitutions.{Grows};
 ghost use Rattle.si_trail.specs.Trails.{HasDistinctSlots};
-ghost use Rattle.si_fit.specs.Fitting.{AllowsSolving};
+ghost use Rattle.si_unify.specs.Solving.{AllowsSolving};
 ghost use Rattle.si_descend.specs.Renaming.{AreTaken, FreezesQuery, HasBecome, IsNumberInRange, IsRenaming, IsRenamingFirst};
 
 use crate::taken::Taken;

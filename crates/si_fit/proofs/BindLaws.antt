@@ -10,7 +10,7 @@ use Rattle.si_flat.specs.declared.Cell.TheVariants as cell
 use Rattle.si_flat.specs.Cells.{Term, IsWhole}
 use Rattle.si_trail.specs.Trails.{value_at, HasDistinctSlots}
 use Rattle.si_unify.specs.declared.slots.Slots.{Slots}
-use Rattle.si_unify.specs.Solving.{Pairs, slot_of, variable_of, CellIsInRange, AreInRange, RanksBelow, IsAcyclic, IsBinding}
+use Rattle.si_unify.specs.Solving.{Pairs, slot_of, variable_of, CellIsInRange, AreInRange, RanksBelow, IsAcyclic, IsBinding, AllowsSolving}
 use Rattle.si_unify.specs.Spots.{cell_slot, IsBelow, IsUnbound}
 use Rattle.si_unify.proofs.Places.{whole_at, first_cell, cell-at, inside, in_range-at, in_range-variable}
 use Rattle.si_unify.proofs.Reading.{one_term}
@@ -18,7 +18,6 @@ use Rattle.si_unify.proofs.Binding.{IsNot, CanBind, solved_front, bound_legal, b
 use Rattle.si_unify.proofs.Meeting.{slot_of-cell}
 use Rattle.si_unify.proofs.Triangular.{IsFound, all_told}
 use Rattle.si_unify.proofs.Answering.{legal_at_first}
-use Rattle.si_fit.specs.Fitting.{AllowsSolving}
 use Rattle.si_fit.specs.Meeting.{IsOpenSlot, slot_cells, HasMet}
 use Rattle.si_fit.specs.Occurring.{IsOtherUnbound, IsFreeFor, slot_leads, value_leads, leads_to, AvoidsCell, Avoids}
 use Rattle.si_fit.specs.declared.meeting.Met.TheVariants.{Equal}

@@ -8,12 +8,11 @@ use Rattle.si_flat.specs.Cells.{Variable, Term, variable_cell, StandsFor, IsWhol
 use Rattle.si_trail.specs.Trails.{value_at}
 use Rattle.si_unify.specs.declared.slots.Slots.{Slots}
 use Rattle.si_unify.specs.Rooms.{AreNoLongerThan}
-use Rattle.si_unify.specs.Solving.{Pairs, variable_of, slot_of, CellIsInRange, AreInRange, Equalizes, IsSolvedBy, IsBinding}
+use Rattle.si_unify.specs.Solving.{Pairs, variable_of, slot_of, CellIsInRange, AreInRange, Equalizes, IsSolvedBy, IsBinding, AllowsSolving}
 use Rattle.si_unify.specs.Spots.{cell_slot, IsBelow, ComesDown, IsChained, IsUnbound}
-use Rattle.si_unify.proofs.Places.{all_at, whole_at, first_cell, cell-at, inside, in_range-at, in_range-variable, variable_of-slot_of, slot_variable}
+use Rattle.si_unify.proofs.Places.{value_holds, whole_at, first_cell, cell-at, inside, in_range-at, in_range-variable, variable_of-slot_of, slot_variable}
 use Rattle.si_unify.proofs.Answering.{legal_at_first}
 use Rattle.si_fit.specs.Ends.{EndsAt}
-use Rattle.si_fit.specs.Fitting.{AllowsSolving}
 
 abbrev pub no_cell : Cell
 no_cell = cell.App 0 0 0
@@ -25,7 +24,7 @@ lent cells = record { ref_ptr = (0, 0); now = cells }
 -- what a solution makes of a bound variable is what it makes of its value
 pub value_same : (slots : Slots) (pairs : Pairs) (x : Variable) (v : Bor (List Cell)) (u : Term) → CellIsInRange slots (variable_cell x) → value_at pairs (slot_of slots x) ≡ Some v → StandsFor v.now u → (f : Variable → Term) → IsSolvedBy slots pairs f → f x ≡ terms.substitute f u
 value_same slots pairs x v u range bound stands f is =
-    let here = all_at (λ pair. Equalizes f (variable_cell (variable_of slots pair.0) ∷ []) pair.1.now) pairs (slot_of slots x) v is.equal bound in
+    let here = value_holds (λ pair. Equalizes f (variable_cell (variable_of slots pair.0) ∷ []) pair.1.now) pairs (slot_of slots x) v is.equal bound in
     let name = variable_of-slot_of slots x (in_range-variable slots x range) in
     subst (λ y. Equalizes f (variable_cell y ∷ []) v.now) name here (terms.var x) u (record { cells_are = refl; sound = tt }) stands
 
@@ -55,7 +54,7 @@ module _ (slots : Slots) (pairs : Pairs) (start : List Cell) where
       let chained = (legal_at_first (record { slots = slots; left = lent start; right = lent start }) pairs solving.bindings solving.triangular whole whole range range).chained in
       record {
         chained = chained;
-        bindings = λ slot v e. all_at (IsBinding slots) pairs slot v solving.bindings e;
+        bindings = λ slot v e. value_holds (IsBinding slots) pairs slot v solving.bindings e;
         first = whole.0;
         first_stands = whole.1;
         last = whole.0;
@@ -78,8 +77,8 @@ module _ (slots : Slots) (pairs : Pairs) (start : List Cell) where
       let binding = h.bindings slot v (sym bound) in
       let x = slot_variable slots h.last slot (sym (here ∙ ap (cell_slot slots) (head_of reached steps h))) in
       let range : CellIsInRange slots (variable_cell x.0) = subst (CellIsInRange slots) (head_of reached steps h ∙ ap first_cell x.1) (in_range-at slots reached 0 no_cell h.range (some_reached reached steps h)) in
-      let positive = all_at (λ pair. 0 < h.chained.rank pair.0) pairs slot v h.chained.positive (sym bound) in
-      let down = all_at (λ pair. ComesDown slots h.chained.rank pair.0 pair.1.now) pairs slot v h.chained.down (sym bound) in
+      let positive = value_holds (λ pair. 0 < h.chained.rank pair.0) pairs slot v h.chained.positive (sym bound) in
+      let down = value_holds (λ pair. ComesDown slots h.chained.rank pair.0 pair.1.now) pairs slot v h.chained.down (sym bound) in
       let low = h.low slot (sym here) in
       record {
         chained = h.chained;
@@ -91,7 +90,7 @@ module _ (slots : Slots) (pairs : Pairs) (start : List Cell) where
         same = λ f is. h.same f is ∙ ap (terms.substitute f) x.1 ∙ value_same slots pairs x.0 v binding.whole.0 range (ap (value_at pairs) x.2 ∙ sym bound) binding.whole.1 f is;
         range = binding.in_range;
         short = omega (arith, low, positive);
-        within = λ n values few. all_at (λ pair. length pair.1.now ≤ n) pairs slot v values (sym bound);
+        within = λ n values few. value_holds (λ pair. length pair.1.now ≤ n) pairs slot v values (sym bound);
         low = λ next e. omega (arith, low, next_below slots h.chained.rank slot next v.now down e);
       }
 
@@ -112,7 +111,7 @@ module _ (slots : Slots) (pairs : Pairs) (start : List Cell) where
   ends_full reached steps h full = ended reached steps h (by (cell_slot slots (get_or reached 0 no_cell)) refl) where
     bound : (slot : ℕ) → cell_slot slots (get_or reached 0 no_cell) ≡ Some slot → (o : Option (Bor (List Cell))) → value_at pairs slot ≡ o → value_at pairs slot ≡ None
     bound slot here None e = e
-    bound slot here (Some v) e = absurd (omega (arith, full, h.low slot here, all_at (λ pair. 0 < h.chained.rank pair.0) pairs slot v h.chained.positive e))
+    bound slot here (Some v) e = absurd (omega (arith, full, h.low slot here, value_holds (λ pair. 0 < h.chained.rank pair.0) pairs slot v h.chained.positive e))
 
     by : (o : Option ℕ) → cell_slot slots (get_or reached 0 no_cell) ≡ o → IsUnbound pairs o
     by None e = tt

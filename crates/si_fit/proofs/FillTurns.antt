@@ -10,9 +10,9 @@ use Rattle.si_flat.specs.Cells.{ind, Term}
 use Rattle.si_flat.specs.Rows.{CellPair, row_of}
 use Rattle.si_trail.specs.Trails.{HasDistinctSlots}
 use Rattle.si_unify.specs.declared.slots.Slots.{Slots}
-use Rattle.si_unify.specs.Solving.{Pairs, IsSolution, HasSolved}
+use Rattle.si_unify.specs.Solving.{Pairs, IsSolution, HasSolved, AllowsSolving}
 use Rattle.si_fit.specs.Ends.{EndsAt}
-use Rattle.si_fit.specs.Fitting.{AllowsSolving, HasSolution}
+use Rattle.si_fit.specs.Fitting.{HasSolution}
 use Rattle.si_fit.specs.Fresh.{StandOnce, IsUntold, AreFresh, IsNew}
 use Rattle.si_fit.specs.Meeting.{HasMet}
 use Rattle.si_fit.specs.declared.meeting.Met.TheVariants.{Equal}

@@ -10,11 +10,11 @@ use Rattle.si_flat.proofs.Subterms.{some_cell}
 use Rattle.si_defs.specs.Terms as terms
 use Rattle.si_unify.specs.declared.slots.Slots.{Slots}
 use Rattle.si_unify.specs.Rooms.{AreNoLongerThan}
-use Rattle.si_unify.specs.Solving.{Pairs, CellIsInRange, AreInRange, IsSolution, HasSolved}
+use Rattle.si_unify.specs.Solving.{Pairs, CellIsInRange, AreInRange, IsSolution, HasSolved, AllowsSolving}
 use Rattle.si_unify.proofs.Comparing.{grows_on}
 use Rattle.si_fit.specs.Fresh.{StandOnce, IsUntold, AreFresh}
 use Rattle.si_fit.proofs.FillTurns.{row_once, still_fresh}
-use Rattle.si_fit.specs.Fitting.{AllowsSolving, StayWithin, AreRowsInRange, AreRowsNoLongerThan, EqualizesRows, HasSolution, HasFitted}
+use Rattle.si_fit.specs.Fitting.{StayWithin, AreRowsInRange, AreRowsNoLongerThan, EqualizesRows, HasSolution, HasFitted}
 
 pub no_more : {X : Type 0} (xs : List X) → Grows xs xs
 no_more xs = ([], sym (append-nil xs))

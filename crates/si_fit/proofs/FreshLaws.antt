@@ -11,14 +11,13 @@ use Rattle.si_flat.specs.declared.Cell.TheVariants as cell
 use Rattle.si_flat.specs.Cells.{Symbol, Variable, query, entry, ind, same_variable, Term, Terms, variable_cell, cells_of, cells_of_all, IsWhole}
 use Rattle.si_trail.specs.Trails.{value_at, HasDistinctSlots}
 use Rattle.si_unify.specs.declared.slots.Slots.{Slots}
-use Rattle.si_unify.specs.Solving.{Pairs, slot_of, variable_of, is_frozen, IsInRange, CellIsInRange, AreInRange, Equalizes, IsBinding, RanksBelow, IsAcyclic, IsSolution}
+use Rattle.si_unify.specs.Solving.{Pairs, slot_of, variable_of, is_frozen, IsInRange, CellIsInRange, AreInRange, Equalizes, IsBinding, RanksBelow, IsAcyclic, IsSolution, AllowsSolving}
 use Rattle.si_unify.specs.Spots.{cell_slot, IsBelow}
 use Rattle.si_unify.proofs.Binding.{solved_front}
 use Rattle.si_unify.proofs.Places.{variable_of-slot_of}
 use Rattle.si_unify.proofs.Solutions.{lt_tells, solved_of_triangular}
 use Rattle.si_unify.proofs.Weights.{FitsIn, fits}
 use Rattle.si_fit.specs.Ends.{EndsAt}
-use Rattle.si_fit.specs.Fitting.{AllowsSolving}
 use Rattle.si_fit.specs.Fresh.{IsUnmentioned}
 use Rattle.si_fit.specs.Meeting.{slot_cells, HasMet}
 use Rattle.si_fit.specs.declared.meeting.Met.TheVariants.{Equal}

@@ -11,7 +11,7 @@ use Rattle.si_trail.specs.Trails.{value_at}
 use Rattle.si_unify.specs.declared.slots.Slots.{Slots}
 use Rattle.si_unify.specs.Solving.{Pairs, slot_of, variable_of, is_frozen, IsInRange, CellIsInRange, AreInRange, IsBinding}
 use Rattle.si_unify.specs.Spots.{free_slot}
-use Rattle.si_unify.proofs.Places.{all_at, in_range-variable, variable_of-slot_of}
+use Rattle.si_unify.proofs.Places.{value_holds, in_range-variable, variable_of-slot_of}
 use Rattle.si_unify.proofs.Meeting.{slot_of-cell}
 use Rattle.si_fit.specs.Meeting.{IsOpenSlot}
 use Rattle.si_fit.specs.Occurring.{IsOtherUnbound, IsFreeFor, AvoidsCell, Avoids}
@@ -36,7 +36,7 @@ frozen_unbound slots pairs x bindings range frozen = go (value_at pairs (slot_of
   go : (o : Option (Bor (List Cell))) → value_at pairs (slot_of slots x) ≡ o → value_at pairs (slot_of slots x) ≡ None
   go None e = e
   go (Some v) e =
-      let b = all_at (IsBinding slots) pairs (slot_of slots x) v bindings e in
+      let b = value_holds (IsBinding slots) pairs (slot_of slots x) v bindings e in
       let bad : true ≡ false = sym frozen ∙ ap (is_frozen slots) (sym (variable_of-slot_of slots x range)) ∙ b.unfrozen in
       cc
 

@@ -6,7 +6,7 @@ use Rattle.si_flat.specs.declared.Cell.{Cell}
 use Rattle.si_trail.specs.Trails.{value_at}
 use Rattle.si_unify.specs.Rooms.{AreNoLongerThan}
 use Rattle.si_unify.specs.Solving.{Pairs}
-use Rattle.si_unify.proofs.Places.{all_at}
+use Rattle.si_unify.proofs.Places.{value_holds}
 use Rattle.si_fit.specs.Fitting.{StayWithin}
 
 pub stay_there : (pairs : Pairs) (left right : List Cell) → StayWithin pairs pairs left right
@@ -25,7 +25,7 @@ parts_stay old mid new left right one other one_few other_few first then n value
 -- where a value stood in the place of one of both
 module _ (old new : Pairs) (slot : ℕ) (v : Bor (List Cell)) (here : value_at old slot ≡ Some v) (left right : List Cell) where
   value_few : (n : ℕ) → AreNoLongerThan n old → length v.now ≤ n
-  value_few n values = all_at (λ pair. length pair.1.now ≤ n) old slot v values here
+  value_few n values = value_holds (λ pair. length pair.1.now ≤ n) old slot v values here
 
   pub left_stays : StayWithin old new v.now right → StayWithin old new left right
   left_stays stay n values left_few right_few = stay n values (value_few n values) right_few

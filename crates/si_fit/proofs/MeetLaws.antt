@@ -11,7 +11,7 @@ use Rattle.si_trail.specs.Trails.{value_at}
 use Rattle.si_unify.specs.declared.slots.Slots.{Slots}
 use Rattle.si_unify.specs.Solving.{Pairs, slot_of, variable_of, is_frozen, CellIsInRange, AreInRange, Equalizes, IsSolvedBy, IsBinding, IsInRange}
 use Rattle.si_unify.specs.Spots.{free_slot}
-use Rattle.si_unify.proofs.Places.{all_at, first_cell, whole_at, cell-at, inside, in_range-at, in_range-variable, variable_of-slot_of}
+use Rattle.si_unify.proofs.Places.{value_holds, first_cell, whole_at, cell-at, inside, in_range-at, in_range-variable, variable_of-slot_of}
 use Rattle.si_unify.proofs.Reading.{one_term}
 use Rattle.si_unify.proofs.Weights.{fits_all}
 use Rattle.si_unify.proofs.Meeting.{free_variable, frozen_variable}
@@ -34,13 +34,13 @@ same_met slots pairs left right e f = (
 pub value_met : (slots : Slots) (old new : Pairs) (slot : ℕ) (v : Bor (List Cell)) (term : List Cell) (m : Met) → AllByRecursion (IsBinding slots) old → value_at old slot ≡ Some v → HasMet slots old new v.now term m → HasMet slots old new (slot_cells slots slot) term m
 value_met slots old new slot v term m bindings e h = go m h where
   whole : IsWhole v.now
-  whole = (all_at (IsBinding slots) old slot v bindings e).whole
+  whole = (value_holds (IsBinding slots) old slot v bindings e).whole
 
   stands : StandsFor (slot_cells slots slot) (terms.var (variable_of slots slot))
   stands = record { cells_are = refl; sound = tt }
 
   bound : (f : Variable → Term) → IsSolvedBy slots old f → Equalizes f (slot_cells slots slot) v.now
-  bound f is = all_at (λ pair. Equalizes f (variable_cell (variable_of slots pair.0) ∷ []) pair.1.now) old slot v is.equal e
+  bound f is = value_holds (λ pair. Equalizes f (variable_cell (variable_of slots pair.0) ∷ []) pair.1.now) old slot v is.equal e
 
   from_value : (f : Variable → Term) → IsSolvedBy slots old f → Equalizes f v.now term → Equalizes f (slot_cells slots slot) term
   from_value f is equal t u left right = bound f is t whole.0 left whole.1 ∙ equal whole.0 u whole.1 right

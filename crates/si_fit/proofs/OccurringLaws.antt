@@ -13,7 +13,7 @@ use Rattle.si_trail.specs.Trails.{value_at}
 use Rattle.si_unify.specs.declared.slots.Slots.{Slots}
 use Rattle.si_unify.specs.Solving.{Pairs, slot_of, variable_of, IsInRange, CellIsInRange, IsSolvedBy, IsBinding}
 use Rattle.si_unify.specs.Spots.{cell_slot}
-use Rattle.si_unify.proofs.Places.{all_at, variable_of-slot_of}
+use Rattle.si_unify.proofs.Places.{value_holds, variable_of-slot_of}
 use Rattle.si_unify.proofs.Weights.{FitsIn, fits}
 use Rattle.si_fit.specs.Occurring.{slot_leads, some_leads, value_leads, leads_to, AvoidsCell, Avoids, image_size, OccursInCell, OccursIn, HasSearchedCell, HasSearched}
 use Rattle.si_fit.specs.declared.occurring.Occurrence.{Occurrence}
@@ -124,7 +124,7 @@ module _ (slots : Slots) (pairs : Pairs) (target : ℕ) where
 
   in_value : (x : Variable) (slot : ℕ) (v : Bor (List Cell)) → CellIsInRange slots (variable_cell x) → slot_of slots x ≡ slot → value_at pairs slot ≡ Some v → AllByRecursion (IsBinding slots) pairs → OccursIn slots pairs target v.now → (f : Variable → Term) → IsSolvedBy slots pairs f → terms.size (f (variable_of slots target)) ≤ terms.size (f x)
   in_value x slot v range e bound bindings occurs f is =
-      let whole = (all_at (IsBinding slots) pairs slot v bindings bound).whole in
+      let whole = (value_holds (IsBinding slots) pairs slot v bindings bound).whole in
       let same : f x ≡ terms.substitute f whole.0 = value_same slots pairs x v whole.0 range (ap (value_at pairs) e ∙ bound) whole.1 f is in
       occurs f (terms.size (f x)) is
       (subst (AllByRecursion (λ c. image_size f c ≤ terms.size (f x))) (sym whole.1.cells_are)

@@ -6,9 +6,8 @@ use Rattle.si_flat.specs.declared.Cell.{Cell}
 use Rattle.si_flat.specs.Cells.{same_variable}
 use Rattle.si_trail.specs.Trails.{HasDistinctSlots}
 use Rattle.si_unify.specs.declared.slots.Slots.{Slots}
-use Rattle.si_unify.specs.Solving.{Pairs, HasSolved}
+use Rattle.si_unify.specs.Solving.{Pairs, HasSolved, AllowsSolving}
 use Rattle.si_unify.proofs.Solutions.{solved_of_triangular}
-use Rattle.si_fit.specs.Fitting.{AllowsSolving}
 use Rattle.si_fit.specs.Meeting.{HasMet}
 use Rattle.si_fit.specs.declared.meeting.Met.TheVariants.{Equal, Clash}
 use Rattle.si_fit.proofs.FitTurns.{no_more}

@@ -11,7 +11,7 @@ use Rattle.si_flat.specs.declared.Cell.TheVariants as cell
 use Rattle.si_flat.specs.Cells.{Symbol, Variable, Term, Terms, join, cells_of, cells_of_all, AreSound, StandsFor, IsWhole}
 use Rattle.si_flat.proofs.Subterms.{length-cells_of_all, cells_some}
 use Rattle.si_unify.specs.declared.slots.Slots.{Slots}
-use Rattle.si_unify.specs.Solving.{Pairs, CellIsInRange, AreInRange, Equalizes, IsSolvedBy}
+use Rattle.si_unify.specs.Solving.{Pairs, CellIsInRange, AreInRange, Equalizes, IsSolvedBy, AllowsSolving}
 use Rattle.si_unify.specs.Spots.{IsAt, common_arity}
 use Rattle.si_unify.proofs.Places.{first_cell, cell-at, inside}
 use Rattle.si_unify.proofs.Reading.{one_term}
@@ -19,7 +19,7 @@ use Rattle.si_unify.proofs.Rows.{cells-join, sound-join, count-join, substitute-
 use Rattle.si_unify.proofs.Binding.{cut_stands}
 use Rattle.si_unify.proofs.Comparing.{grows_on}
 use Rattle.si_unify.proofs.Meeting.{HaveHead, have_head}
-use Rattle.si_fit.specs.Fitting.{AllowsSolving, StayWithin}
+use Rattle.si_fit.specs.Fitting.{StayWithin}
 use Rattle.si_fit.specs.Meeting.{same_symbol, HasMet}
 use Rattle.si_fit.specs.declared.meeting.Met.TheVariants.{Equal, Clash}
 use Rattle.si_fit.proofs.EndLaws.{no_cell}

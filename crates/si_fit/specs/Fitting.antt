@@ -10,13 +10,7 @@ use Rattle.si_flat.specs.Cells.{Symbol, Variable, same_variable, IsWhole, Term}
 use Rattle.si_flat.specs.Rows.{CellPair}
 use Rattle.si_unify.specs.declared.slots.Slots.{Slots}
 use Rattle.si_unify.specs.Rooms.{AreNoLongerThan}
-use Rattle.si_unify.specs.Solving.{Pairs, slot_count, CellIsInRange, AreInRange, Equalizes, IsAcyclic, IsBinding, IsSolution}
-
--- what the solver asks of a trail with so many slots
-pub record AllowsSolving (slots : Slots) (pairs : Pairs) (count : ℕ) : Type 0 where
-  pub room : slot_count slots ≤ count
-  pub bindings : AllByRecursion (IsBinding slots) pairs
-  pub triangular : IsAcyclic slots pairs
+use Rattle.si_unify.specs.Solving.{Pairs, CellIsInRange, AreInRange, Equalizes, IsSolution, AllowsSolving}
 
 -- two terms that may be walked over beside each other, following what their variables are bound to
 pub record AreWalkable (slots : Slots) (trail : Trail (Bor (List Cell)))

@@ -2,9 +2,8 @@
 ghost use Rattle.std.specs.Prelude.{ℕ, ◌≤◌, length};
 ghost use Rattle.si_flat.specs.Cells.{IsWhole};
 ghost use Rattle.si_unify.specs.Rooms.{AreNoLongerThan};
-ghost use Rattle.si_unify.specs.Solving.{AreInRange};
+ghost use Rattle.si_unify.specs.Solving.{AreInRange, AllowsSolving};
 ghost use Rattle.si_fit.specs.Ends.{EndsAt};
-ghost use Rattle.si_fit.specs.Fitting.{AllowsSolving};
 
 use si_flat::Cell;
 use si_trail::Trail;

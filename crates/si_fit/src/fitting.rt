@@ -3,8 +3,8 @@ ghost use Rattle.std.specs.Prelude.{◌≡◌, ℕ, ◌≤◌, ◌++◌, length,
 ghost use Rattle.std.specs.List.{AllByRecursion};
 ghost use Rattle.si_defs.specs.Substitutions.{Grows};
 ghost use Rattle.si_unify.specs.Rooms.{AreNoLongerThan, IsEnoughToSolve, IsNoLessRoom};
-ghost use Rattle.si_unify.specs.Solving.{HasSolved};
-ghost use Rattle.si_fit.specs.Fitting.{AllowsSolving, AreRowsInRange, AreRowsNoLongerThan, AreWalkable, HasFitted, HasSolution, StaysSolvable, StayWithin};
+ghost use Rattle.si_unify.specs.Solving.{HasSolved, AllowsSolving};
+ghost use Rattle.si_fit.specs.Fitting.{AreRowsInRange, AreRowsNoLongerThan, AreWalkable, HasFitted, HasSolution, StaysSolvable, StayWithin};
 ghost use Rattle.si_fit.specs.Fresh.{StandOnce, IsUntold, AreFresh};
 
 use crate::ends::end_of;
@@ -65,7 +65,7 @@ fn fit_pair<'a>(
 /// # Errors
 ///
 /// `AllocError` where there is no memory, but never where the scratch has room enough for all terms
-/// and bindings of these sizes.
+/// and bindings as long as these.
 pub fn fit<'a>(
     scratch: &mut Scratch,
     trail: &mut Trail<&'a [Cell]>,

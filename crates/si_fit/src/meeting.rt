@@ -4,8 +4,8 @@ ghost use Rattle.si_flat.specs.declared.Cell.TheVariants.{App};
 ghost use Rattle.si_flat.specs.Cells.{IsWhole};
 ghost use Rattle.si_trail.specs.Trails.{value_at};
 ghost use Rattle.si_unify.specs.Rooms.{AreNoLongerThan};
-ghost use Rattle.si_unify.specs.Solving.{AreInRange};
-ghost use Rattle.si_fit.specs.Fitting.{AllowsSolving, StaysSolvable};
+ghost use Rattle.si_unify.specs.Solving.{AreInRange, AllowsSolving};
+ghost use Rattle.si_fit.specs.Fitting.{StaysSolvable};
 ghost use Rattle.si_fit.specs.Meeting.{IsOpenSlot, IsSameVariable, slot_cells, same_symbol, HasMet};
 ghost use Rattle.si_fit.specs.Occurring.{IsFreeFor};
 

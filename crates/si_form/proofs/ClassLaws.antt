@@ -14,7 +14,7 @@ use Rattle.si_flat.specs.Cells.{Variable, Term, variable_cell}
 use Rattle.si_trail.specs.Trails.{value_at}
 use Rattle.si_unify.specs.declared.slots.Slots.{Slots}
 use Rattle.si_unify.specs.Solving.{Pairs, slot_count, variable_of, Equalizes, IsSolvedBy, IsBinding}
-use Rattle.si_unify.proofs.Places.{all_at}
+use Rattle.si_unify.proofs.Places.{value_holds}
 use Rattle.si_form.specs.declared.classes.Node.{Node}
 use Rattle.si_form.specs.declared.classes.Node.TheVariants.{Variable as Of}
 use Rattle.si_form.specs.Classes.{Interns, AreNodes, slots_of, KnowsSlot, HasClass, HasSingles, LeavesUnbound, KnowsWhere, HasClasses, IsClassing}
@@ -126,7 +126,7 @@ module _ {A : Type 0} (slots : Slots) (pairs : Pairs) (lists : List (Option (Vec
     })
       where
         binding : IsBinding slots (slot, v)
-        binding = all_at (IsBinding slots) pairs slot v bindings bound
+        binding = value_holds (IsBinding slots) pairs slot v bindings bound
 
         listed : IsListed (uses_at lists) slot
         listed = listed_of_bound slots pairs lists long below bindings slot v slot_inside bound
@@ -150,7 +150,7 @@ module _ {A : Type 0} (slots : Slots) (pairs : Pairs) (lists : List (Option (Vec
             numbered binding.whole.0 f r.0 binding.whole.1 r.1
             (λ y a. r.2 y (members.all_at (λ j. j < slot_count slots) (slots_of slots v.now) y (range_slots slots v.now binding.in_range) a) (ready y a)) in
             let image : f (variable_of slots slot) ≡ terms.substitute f binding.whole.0 =
-            all_at (λ pair. Equalizes f (variable_cell (variable_of slots pair.0) ∷ []) pair.1.now) pairs slot v solves.equal bound
+            value_holds (λ pair. Equalizes f (variable_cell (variable_of slots pair.0) ∷ []) pair.1.now) pairs slot v solves.equal bound
             (terms.var (variable_of slots slot)) binding.whole.0 (record { cells_are = refl; sound = tt }) binding.whole.1 in (
               g.0,
               g.1.nodes_are,

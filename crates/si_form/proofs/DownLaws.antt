@@ -12,7 +12,7 @@ use Rattle.si_trail.specs.Trails.{value_at}
 use Rattle.si_unify.specs.declared.slots.Slots.{Slots}
 use Rattle.si_unify.specs.Solving.{Pairs, slot_count, variable_of, CellIsInRange, Equalizes, IsSolvedBy, IsAcyclic, IsBinding}
 use Rattle.si_unify.specs.Spots.{cell_slot, IsBelow, ComesDown, IsChained}
-use Rattle.si_unify.proofs.Places.{all_at, whole_at, first_cell, cell-at, inside, in_range-at, in_range-variable, variable_of-slot_of, slot_variable}
+use Rattle.si_unify.proofs.Places.{value_holds, whole_at, first_cell, cell-at, inside, in_range-at, in_range-variable, variable_of-slot_of, slot_variable}
 use Rattle.si_unify.proofs.Ranks.{chained_of_triangular}
 use Rattle.si_unify.proofs.Binding.{slot_below}
 use Rattle.si_form.specs.Unifying.{IsGeneral, HasApplication, IsBoundTo}
@@ -51,11 +51,11 @@ module _ (slots : Slots) (pairs : Pairs) (bindings : AllByRecursion (IsBinding s
     where
       by : (o : Option (Bor (List Cell))) → value_at pairs at ≡ o → IsBoundTo slots pairs slot None
       by None e = down_unbound e
-      by (Some v) e = let positive : 0 < h.chained.rank at = all_at (λ pair. 0 < h.chained.rank pair.0) pairs at v h.chained.positive e in absurd (omega (arith, positive, h.low, full))
+      by (Some v) e = let positive : 0 < h.chained.rank at = value_holds (λ pair. 0 < h.chained.rank pair.0) pairs at v h.chained.positive e in absurd (omega (arith, positive, h.low, full))
 
   module _ (v : Bor (List Cell)) (bound : value_at pairs at ≡ Some v) where
     binding : IsBinding slots (at, v)
-    binding = all_at (IsBinding slots) pairs at v bindings bound
+    binding = value_holds (IsBinding slots) pairs at v bindings bound
 
     pub value_inside : 0 < length v.now
     value_inside = inside v.now 0 binding.whole.0 (whole_at v.now binding.whole.0 binding.whole.1)
@@ -66,7 +66,7 @@ module _ (slots : Slots) (pairs : Pairs) (bindings : AllByRecursion (IsBinding s
     image : (f : Variable → Term) → IsSolvedBy slots pairs f → f (variable_of slots slot) ≡ terms.substitute f binding.whole.0
     image f solved =
         h.same f solved
-        ∙ all_at (λ pair. Equalizes f (variable_cell (variable_of slots pair.0) ∷ []) pair.1.now) pairs at v solved.equal bound
+        ∙ value_holds (λ pair. Equalizes f (variable_cell (variable_of slots pair.0) ∷ []) pair.1.now) pairs at v solved.equal bound
         (terms.var (variable_of slots at)) binding.whole.0 (record { cells_are = refl; sound = tt }) binding.whole.1
 
     pub down_more : (next : ℕ) → Some next ≡ cell_slot slots (get_or v.now 0 no_cell) → IsDown slots pairs slot next (k + 1)
@@ -74,7 +74,7 @@ module _ (slots : Slots) (pairs : Pairs) (bindings : AllByRecursion (IsBinding s
         let x = slot_variable slots binding.whole.0 next (ap (cell_slot slots) (sym first) ∙ sym here) in
         let range : CellIsInRange slots (first_cell binding.whole.0) = subst (CellIsInRange slots) first (in_range-at slots v.now 0 no_cell binding.in_range value_inside) in
         let range' = in_range-variable slots x.0 (subst (λ w. CellIsInRange slots (first_cell w)) x.1 range) in
-        let down : ComesDown slots h.chained.rank at v.now = all_at (λ pair. ComesDown slots h.chained.rank pair.0 pair.1.now) pairs at v h.chained.down bound in
+        let down : ComesDown slots h.chained.rank at v.now = value_holds (λ pair. ComesDown slots h.chained.rank pair.0 pair.1.now) pairs at v h.chained.down bound in
         let less = next_below slots h.chained.rank at next v.now value_inside down (sym here) in
         record {
           chained = h.chained;
@@ -119,7 +119,7 @@ module _ (slots : Slots) (pairs : Pairs) (bindings : AllByRecursion (IsBinding s
       by (Some v) e later = go (cell_slot slots (get_or v.now 0 no_cell)) refl
         where
           go : (o : Option ℕ) → o ≡ cell_slot slots (get_or v.now 0 no_cell) → ComesFromUpTo slots f slot n
-          go None here = inr (length v.now, all_at (λ pair. length pair.1.now ≤ n) pairs at v few e, applies slots pairs bindings slot at k h v e (length v.now) here refl f general)
+          go None here = inr (length v.now, value_holds (λ pair. length pair.1.now ≤ n) pairs at v few e, applies slots pairs bindings slot at k h v e (length v.now) here refl f general)
           go (Some next) here = later next (down_more slots pairs bindings slot at k h v e next here)
 
   pub comes_from_value : IsAcyclic slots pairs → slot < slot_count slots → ComesFromUpTo slots f slot n

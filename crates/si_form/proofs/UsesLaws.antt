@@ -15,7 +15,7 @@ use Rattle.si_unify.specs.declared.slots.Slots.{Slots}
 use Rattle.si_unify.specs.Solving.{Pairs, slot_count, AreInRange, RanksBelow, IsAcyclic, IsBinding}
 use Rattle.si_unify.specs.Spots.{cell_slot}
 use Rattle.si_unify.specs.Circles.{with_slot}
-use Rattle.si_unify.proofs.Places.{all_at}
+use Rattle.si_unify.proofs.Places.{value_holds}
 use Rattle.si_form.specs.Classes.{slots_of}
 use Rattle.si_form.specs.Ordering.{list_of, uses_at, list_or_none, IsListed, HasNoCircle}
 use Rattle.si_form.specs.Uses.{used_in, used_by, UsesBelow}
@@ -109,7 +109,7 @@ module _ {A : Type 0} (slots : Slots) (pairs : Pairs) (lists : List (Option (Vec
   pub no_circle : IsAcyclic slots pairs → HasNoCircle (uses_at lists) (length lists)
   no_circle t = record {
     inside = λ k l. omega (arith, listed_inside k l, long);
-    used_inside = λ k. of_list (λ i j. j < length lists) k (λ v e. subst (λ n. AllByRecursion (λ j. j < n) (slots_of slots v.now)) (sym long) (range_slots slots v.now (all_at (IsBinding slots) pairs k v bindings e).in_range));
+    used_inside = λ k. of_list (λ i j. j < length lists) k (λ v e. subst (λ n. AllByRecursion (λ j. j < n) (slots_of slots v.now)) (sym long) (range_slots slots v.now (value_holds (IsBinding slots) pairs k v bindings e).in_range));
     rank = t.0;
-    falls = λ k. of_list (λ i j. t.0 j < t.0 i) k (λ v e. rank_slots slots t.0 k v.now (all_at (λ pair. AllByRecursion (RanksBelow slots t.0 pair.0) pair.1.now) pairs k v t.1 e));
+    falls = λ k. of_list (λ i j. t.0 j < t.0 i) k (λ v e. rank_slots slots t.0 k v.now (value_holds (λ pair. AllByRecursion (RanksBelow slots t.0 pair.0) pair.1.now) pairs k v t.1 e));
   }

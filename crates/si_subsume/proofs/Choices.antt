@@ -14,9 +14,9 @@ use Rattle.si_flat.specs.declared.Cell.{Cell}
 use Rattle.si_flat.specs.Cells.{Symbol, Variable, same_variable}
 use Rattle.si_trail.specs.Trails.{Trail}
 use Rattle.si_unify.specs.declared.slots.Slots.{Slots}
-use Rattle.si_unify.specs.Solving.{Pairs, Equalizes, IsBinding, RanksBelow, IsSolution, HaveCommon}
+use Rattle.si_unify.specs.Solving.{Pairs, Equalizes, IsBinding, RanksBelow, IsSolution, HaveCommon, AllowsSolving}
 use Rattle.si_subsume.specs.declared.search.Choice.{Choice}
-use Rattle.si_subsume.specs.Search.{Slices, AllowsSolving, CanEnd, number_of, IsLeastSearch, IsChosen, AreChosen, AreTried, IsUnderway, IsDead, NextNumber, turns_left, GoesOnFrom, FindsTarget, IsFirstTarget}
+use Rattle.si_subsume.specs.Search.{Slices, CanEnd, number_of, IsLeastSearch, IsChosen, AreChosen, AreTried, IsUnderway, IsDead, NextNumber, turns_left, GoesOnFrom, FindsTarget, IsFirstTarget}
 use Rattle.si_subsume.proofs.Turns.{turns_popped, turns_pushed}
 
 pub compare : (m n : ℕ) → (m < n) ⊎ ((m ≡ n) ⊎ (n < m))
@@ -323,11 +323,11 @@ module _ (slots : Slots) (targets literals : Slices) (choices : List Choice) (ol
       )
 
 -- ---- the whole search
-pub record IsSearching (slots : Slots) (targets literals : Slices) (choices : List Choice) (trail : Trail (Bor (List Cell))) (from : ℕ) : Type 0 where
+pub record IsChoosing (slots : Slots) (targets literals : Slices) (choices : List Choice) (trail : Trail (Bor (List Cell))) (from : ℕ) : Type 0 where
   pub underway : IsUnderway slots targets literals choices trail.pairs from
   pub ready : AllowsSolving slots trail.pairs trail.slots
 
-pub searching_start : (slots : Slots) (targets literals : Slices) (trail : Trail (Bor (List Cell))) (choices : List Choice) → trail.pairs ≡ [] → choices ≡ [] → AllowsSolving slots trail.pairs trail.slots → IsSearching slots targets literals choices trail 0
+pub searching_start : (slots : Slots) (targets literals : Slices) (trail : Trail (Bor (List Cell))) (choices : List Choice) → trail.pairs ≡ [] → choices ≡ [] → AllowsSolving slots trail.pairs trail.slots → IsChoosing slots targets literals choices trail 0
 searching_start slots targets literals trail choices unbound none ready = record {
   underway =
       subst (λ cs. IsUnderway slots targets literals cs trail.pairs 0) (sym none)

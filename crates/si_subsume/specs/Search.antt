@@ -9,7 +9,7 @@ use Rattle.si_flat.specs.declared.Cell.{Cell}
 use Rattle.si_flat.specs.declared.Cell.TheVariants as cell
 use Rattle.si_flat.specs.Cells.{Symbol, Variable, same_variable, IsWhole}
 use Rattle.si_unify.specs.declared.slots.Slots.{Slots}
-use Rattle.si_unify.specs.Solving.{Pairs, slot_count, AreInRange, IsAcyclic, IsBinding, Equalizes, IsSolution, IsCommon, HaveCommon}
+use Rattle.si_unify.specs.Solving.{Pairs, AreInRange, Equalizes, IsSolution, IsCommon, HaveCommon}
 use Rattle.si_subsume.specs.declared.search.Choice.{Choice}
 
 abbrev pub Slices : Type 0
@@ -28,12 +28,6 @@ pub record IsFlatLiteral (slots : Slots) (cells : List Cell) : Type 0 where
 
 abbrev pub AreFlatLiterals : Slots → Slices → Type 0
 AreFlatLiterals slots = AllByRecursion (λ b. IsFlatLiteral slots b.now)
-
--- bindings over which more can be solved
-pub record AllowsSolving (slots : Slots) (pairs : Pairs) (count : ℕ) : Type 0 where
-  pub room : slot_count slots ≤ count
-  pub bindings : AllByRecursion (IsBinding slots) pairs
-  pub triangular : IsAcyclic slots pairs
 
 -- both are cells of symbols, and of different ones
 abbrev pub HaveOtherHeads : Cell → Cell → Type 0

@@ -2,7 +2,8 @@
 ghost use Rattle.std.specs.Prelude.{◌≡◌, ◌+◌, ◌<◌, ◌≤◌, ◌^◌, [], IfOk, length, take, drop};
 ghost use Rattle.std.specs.List.{AllByRecursion};
 ghost use Rattle.si_subsume.specs.Parts.{AreFixed, AreParts, parts_from, AnswersParts};
-ghost use Rattle.si_subsume.specs.Search.{AllowsSolving, AreFlatLiterals, AnswersSearch};
+ghost use Rattle.si_unify.specs.Solving.{AllowsSolving};
+ghost use Rattle.si_subsume.specs.Search.{AreFlatLiterals, AnswersSearch};
 ghost use Rattle.si_subsume.specs.Tasks.{IsSearchable, FindsMap};
 
 use crate::chains::Chains;

@@ -1,7 +1,8 @@
 // The search for the least map.
 ghost use Rattle.std.specs.Prelude.{IsFalse, ◌≡◌, ℕ, ◌<◌, [], length, IfOk};
 ghost use Rattle.si_subsume.specs.Heads.{head_of, first_cell, IsFirstToTry};
-ghost use Rattle.si_subsume.specs.Search.{IsFlatLiteral, AllowsSolving, NextNumber};
+ghost use Rattle.si_unify.specs.Solving.{AllowsSolving};
+ghost use Rattle.si_subsume.specs.Search.{IsFlatLiteral, NextNumber};
 ghost use Rattle.si_subsume.specs.Tasks.{IsSearchable, Tries, Finds, StandsAt, CannotGoOn, Advances, HasNoMap, FindsChoices};
 
 use crate::heads::{Heads, head_of};

@@ -21,7 +21,7 @@ use Rattle.si_unify.specs.Solving.{IsHandedIn, IsPieceOf, Pairs, slot_count, slo
 use Rattle.si_unify.specs.Spots.{cells_now, text, IsAt, StandsAt, IsSpot, IsSubterm, at_spot, Binds, cell_slot, IsBelow, ComesDown, IsChained, IsLegal, MakesEqual, IsApart, ArePairs, Meets, IsGoingOn, IsUnbound}
 use Rattle.si_unify.proofs.Reading.{same_term, one_term}
 use Rattle.si_unify.proofs.Lists.{apart_from, still_bound}
-use Rattle.si_unify.proofs.Places.{all_at, at_unique, first_cell, first_of, inside, text_in_range, variable_of-slot_of}
+use Rattle.si_unify.proofs.Places.{value_holds, at_unique, first_cell, first_of, inside, text_in_range, variable_of-slot_of}
 
 -- ---- texts stay as the list grows
 pub text_stays : (q : Question) (pairs more : Pairs) (base : ℕ) → 0 < length (text q pairs base) → text q (pairs ++ more) base ≡ text q pairs base
@@ -305,4 +305,4 @@ text_whole q pairs spot legal stands =
   where
     value_whole : (o : Option (Bor (List Cell))) → value_at pairs spot.base ≡ o → 0 < length (cells_now (value_at pairs spot.base)) → IsWhole (cells_now (value_at pairs spot.base))
     value_whole None e some = let none : 0 < length (cells_now None) = rw e at some in absurd (omega arith)
-    value_whole (Some v) e some = rw e (all_at (IsBinding q.slots) pairs spot.base v legal.bindings e).whole
+    value_whole (Some v) e some = rw e (value_holds (IsBinding q.slots) pairs spot.base v legal.bindings e).whole

@@ -12,7 +12,7 @@ use Rattle.si_unify.specs.declared.spots.Subterm.{Subterm}
 use Rattle.si_unify.specs.declared.spots.Question.{Question}
 use Rattle.si_unify.specs.Solving.{Pairs, variable_of, CellIsInRange, Equalizes, IsSolvedBy, IsBinding}
 use Rattle.si_unify.specs.Spots.{IsAt, StandsAt, IsSpot, IsSubterm, at_spot, cell_at, cell_slot, IsBelow, ComesDown, IsLegal, IsUnbound, slot_at, ComesTo}
-use Rattle.si_unify.proofs.Places.{all_at, whole_at, first_cell, cell-at, inside, in_range-at, in_range-variable, variable_of-slot_of, text-bound, text_in_range, slot_variable}
+use Rattle.si_unify.proofs.Places.{value_holds, whole_at, first_cell, cell-at, inside, in_range-at, in_range-variable, variable_of-slot_of, text-bound, text_in_range, slot_variable}
 
 abbrev pub no_cell : Cell
 no_cell = cell.App 0 0 0
@@ -72,7 +72,7 @@ value_same q pairs spot t slot v u legal stands here bound whole f solved =
     let back : variable_of q.slots slot ≡ x.0 =
     ap (variable_of q.slots) (sym x.2) ∙ variable_of-slot_of q.slots x.0 (in_range-variable q.slots x.0 range') in
     let equal : Equalizes f (variable_cell (variable_of q.slots slot) ∷ []) v.now =
-    all_at (λ pair. Equalizes f (variable_cell (variable_of q.slots pair.0) ∷ []) pair.1.now) pairs slot v solved.equal bound in
+    value_holds (λ pair. Equalizes f (variable_cell (variable_of q.slots pair.0) ∷ []) pair.1.now) pairs slot v solved.equal bound in
     ap (terms.substitute f) x.1
     ∙ ap f (sym back)
     ∙ equal (terms.var (variable_of q.slots slot)) u (record { cells_are = refl; sound = tt }) whole
@@ -84,7 +84,7 @@ value_stands :
     → StandsFor v.now u
     → StandsAt q pairs (at_slot slot) u
 value_stands q pairs slot v u legal bound whole =
-    let here = text-bound q pairs slot v (all_at (IsBinding q.slots) pairs slot v legal.bindings bound).below bound in
+    let here = text-bound q pairs slot v (value_holds (IsBinding q.slots) pairs slot v legal.bindings bound).below bound in
     subst (λ l. IsAt l 0 u) (sym here) (whole_at v.now u whole)
 
 -- the next slot has a smaller rank
@@ -99,12 +99,12 @@ pub chain_goes_on :
     → value_at pairs slot ≡ Some v
     → IsOnChain q pairs from (at_slot slot) (steps + 1)
 chain_goes_on q pairs from spot steps slot v h here bound =
-    let binding = all_at (IsBinding q.slots) pairs slot v h.legal.bindings bound in
+    let binding = value_holds (IsBinding q.slots) pairs slot v h.legal.bindings bound in
     let u = binding.whole.0 in
     let whole = binding.whole.1 in
-    let positive : 0 < h.legal.chained.rank slot = all_at (λ pair. 0 < h.legal.chained.rank pair.0) pairs slot v h.legal.chained.positive bound in
+    let positive : 0 < h.legal.chained.rank slot = value_holds (λ pair. 0 < h.legal.chained.rank pair.0) pairs slot v h.legal.chained.positive bound in
     let down : ComesDown q.slots h.legal.chained.rank slot v.now =
-    all_at (λ pair. ComesDown q.slots h.legal.chained.rank pair.0 pair.1.now) pairs slot v h.legal.chained.down bound in
+    value_holds (λ pair. ComesDown q.slots h.legal.chained.rank pair.0 pair.1.now) pairs slot v h.legal.chained.down bound in
     record {
       legal = h.legal;
       comes = λ t stands. let r = h.comes t stands in record {
@@ -133,7 +133,7 @@ chain_ends q pairs from spot steps h ends t stands =
 -- a value is a subterm
 pub value_subterm : (q : Question) (pairs : Pairs) (slot : ℕ) (v : Bor (List Cell)) → IsLegal q pairs → value_at pairs slot ≡ Some v → IsSubterm q pairs (at_spot (at_slot slot) v)
 value_subterm q pairs slot v legal bound =
-    let whole = (all_at (IsBinding q.slots) pairs slot v legal.bindings bound).whole in
+    let whole = (value_holds (IsBinding q.slots) pairs slot v legal.bindings bound).whole in
     record {
       term = whole.0;
       stands = value_stands q pairs slot v whole.0 legal bound whole.1;

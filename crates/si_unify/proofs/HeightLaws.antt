@@ -23,13 +23,13 @@ stay old grown slot longer front behind =
       | inr less ↦ front less.1
     ]
 
-pub raised :
+pub height_raised :
     (old grown : List ℕ) (count slot higher : ℕ)
     → ((other : ℕ) → height grown other ≡ height old other)
     → slot < length grown
     → higher ≡ min (height old slot + 1) 255
     → IsRaised count slot old (set grown slot higher)
-raised old grown count slot higher same less e = record {
+height_raised old grown count slot higher same less e = record {
   raised = λ _. get_or-set_same grown slot higher 0 less ∙ e;
   others = λ other apart. get_or-set_other grown slot other higher 0 apart ∙ same other;
 }

@@ -17,7 +17,7 @@ use Rattle.si_unify.specs.declared.spots.Question.{Question}
 use Rattle.si_unify.specs.Solving.{Pairs, slot_count, IsBinding}
 use Rattle.si_unify.specs.Spots.{cells_now, text, same_spots, IsSpot, IsApart, IsLegal, IsAdded, HasNoRoomFor, ArePairs}
 use Rattle.si_unify.specs.Rooms.{AreNoLongerThan, most_spots}
-use Rattle.si_unify.proofs.Places.{all_at, inside}
+use Rattle.si_unify.proofs.Places.{value_holds, inside}
 use Rattle.si_unify.proofs.Meeting.{same_pair}
 
 -- ---- a pair that is there
@@ -160,8 +160,8 @@ module _ (q : Question) (pairs : Pairs) (n : ℕ) (legal : IsLegal q pairs) (val
       value_within : (o : Option (Bor (List Cell))) → value_at pairs base ≡ o → at < length (cells_now o) → (base < slot_count q.slots + 2) × (at < n)
       value_within None e here = absurd (omega (arith, here))
       value_within (Some v) e here = (
-        omega (arith, (all_at (IsBinding q.slots) pairs base v legal.bindings e).below),
-        omega (arith, here, all_at (λ pair. length pair.1.now ≤ n) pairs base v values e),
+        omega (arith, (value_holds (IsBinding q.slots) pairs base v legal.bindings e).below),
+        omega (arith, here, value_holds (λ pair. length pair.1.now ≤ n) pairs base v values e),
       )
 
   spot_in : (s : Spot) → IsSpot q pairs s → IsIn (slot_count q.slots) n s

@@ -11,7 +11,7 @@ use Rattle.si_trail.specs.Trails.{value_at}
 use Rattle.si_unify.specs.declared.spots.Question.{Question}
 use Rattle.si_unify.specs.Solving.{Pairs, slot_count, IsPieceOf, IsPieceOfValue, IsHandedIn, AreHandedIn}
 use Rattle.si_unify.specs.Spots.{cells_now, text, IsAt}
-use Rattle.si_unify.proofs.Places.{all_at}
+use Rattle.si_unify.proofs.Places.{value_holds}
 
 -- ---- slices
 piece_itself : (cells : List Cell) → IsPieceOf cells cells
@@ -110,7 +110,7 @@ text_handed_in q pairs base =
   where
     value_handed_in : (o : Option (Bor (List Cell))) → value_at pairs base ≡ o → IsHandedIn pairs q.left.now q.right.now (cells_now o)
     value_handed_in None e = inl (no_cells q.left.now)
-    value_handed_in (Some v) e = inr (inr (all_at (λ p. IsPieceOfValue pairs p.1.now) pairs base v (each_itself pairs) e))
+    value_handed_in (Some v) e = inr (inr (value_holds (λ p. IsPieceOfValue pairs p.1.now) pairs base v (each_itself pairs) e))
 
 -- ---- lengths
 -- what is handed in by none that is longer is no longer

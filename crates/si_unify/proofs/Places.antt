@@ -18,15 +18,15 @@ use Rattle.si_unify.specs.Spots.{cells_now, text, IsAt, cell_slot, IsLegal}
 use Rattle.si_unify.proofs.Reading.{same_term}
 
 -- ---- lists of bindings
-pub all_at : (P : ℕ × Bor (List Cell) → Type 0) (pairs : Pairs) (slot : ℕ) (v : Bor (List Cell)) → AllByRecursion P pairs → value_at pairs slot ≡ Some v → P (slot, v)
-all_at P [] slot v all e = cc
-all_at P (pair ∷ pairs) slot v all e =
+pub value_holds : (P : ℕ × Bor (List Cell) → Type 0) (pairs : Pairs) (slot : ℕ) (v : Bor (List Cell)) → AllByRecursion P pairs → value_at pairs slot ≡ Some v → P (slot, v)
+value_holds P [] slot v all e = cc
+value_holds P (pair ∷ pairs) slot v all e =
     elim (eqb_tells pair.0 slot) [
       | inl h ↦
           let found : Some pair.1 ≡ Some v = rw h.0 at e in
           let value : pair.1 ≡ v = cc in
           subst (λ w. P (slot, w)) value (subst (λ k. P (k, pair.1)) h.1 all.0)
-      | inr h ↦ all_at P pairs slot v all.1 (rw h.0 at e)
+      | inr h ↦ value_holds P pairs slot v all.1 (rw h.0 at e)
     ]
 
 -- ---- cells
@@ -98,7 +98,7 @@ text_in_range q pairs base legal =
   where
     value_in_range : (q : Question) (pairs : Pairs) (base : ℕ) → IsLegal q pairs → (o : Option (Bor (List Cell))) → value_at pairs base ≡ o → AreInRange q.slots (cells_now o)
     value_in_range q pairs base legal None e = tt
-    value_in_range q pairs base legal (Some v) e = (all_at (IsBinding q.slots) pairs base v legal.bindings e).in_range
+    value_in_range q pairs base legal (Some v) e = (value_holds (IsBinding q.slots) pairs base v legal.bindings e).in_range
 
 -- the variable at a spot, from the slot of its cell
 pub slot_variable : (slots : Slots) (t : Term) (slot : ℕ) → cell_slot slots (first_cell t) ≡ Some slot → (x : Variable) × (t ≡ terms.var x) × (slot_of slots x ≡ slot)

@@ -24,7 +24,7 @@ use Rattle.si_unify.specs.Solving.{Pairs, slot_count, IsTriangularBy, RanksBelow
 use Rattle.si_unify.specs.Spots.{cell_slot}
 use Rattle.si_unify.specs.Circles.{if_value, if_bound, with_slot, bound_slots, HasStepped, HasDone, enter_each, pile, visits_of, AreEntered, below_value, slots_below, visit_slot, visit_slots, IsDone, AreCovered, RanksUnder, ComeDown, AreRanked, leave_slots, IsSearching, StayDone, HasSearched}
 use Rattle.si_unify.specs.States.{weight}
-use Rattle.si_unify.proofs.Places.{all_at}
+use Rattle.si_unify.proofs.Places.{value_holds}
 
 -- ---- states of slots
 done_stays_at_done : (states : List State) (slot : ℕ) → slot < length states → StayDone states (set states slot Done)
@@ -288,7 +288,7 @@ bound_valid : (slots : Slots) (pairs : Pairs) (cells : List Cell) → AllByRecur
 bound_valid slots pairs [] h = tt
 bound_valid slots pairs (c ∷ cells) h =
     all_with_slot (λ z. z < slot_count slots) (if_bound pairs (cell_slot slots c)) (bound_slots slots pairs cells)
-    (λ z e. let b = bound_value pairs (cell_slot slots c) z e in (all_at (IsBinding slots) pairs z b.1.0 h b.1.1).below)
+    (λ z e. let b = bound_value pairs (cell_slot slots c) z e in (value_holds (IsBinding slots) pairs z b.1.0 h b.1.1).below)
     (bound_valid slots pairs cells h)
 
 below_valid : (slots : Slots) (pairs : Pairs) (slot : ℕ) → AllByRecursion (IsBinding slots) pairs → AllByRecursion (λ z. z < slot_count slots) (slots_below slots pairs slot)
@@ -310,7 +310,7 @@ below_ranks slots pairs rank slot t = go (value_at pairs slot) refl
   where
     go : (o : Option (Bor (List Cell))) → value_at pairs slot ≡ o → AllByRecursion (λ z. rank z < rank slot) (below_value slots pairs o)
     go None e = tt
-    go (Some v) e = bound_ranks slots pairs rank slot v.now (all_at (λ pair. AllByRecursion (RanksBelow slots rank pair.0) pair.1.now) pairs slot v t e)
+    go (Some v) e = bound_ranks slots pairs rank slot v.now (value_holds (λ pair. AllByRecursion (RanksBelow slots rank pair.0) pair.1.now) pairs slot v t e)
 
 under_further : (rank : ℕ → ℕ) (x slot : ℕ) (t : Visit) → rank x < rank slot → RanksUnder rank slot t → RanksUnder rank x t
 under_further rank x slot (Enter other) less h = tt
@@ -426,22 +426,22 @@ open_done slots pairs states slot visits new_visits h is_new e few =
     }
 
 -- ---- the whole search
-pub record IsUnderway (slots : Slots) (pairs : Pairs) (old states : List State) (old_visits visits : List Visit) : Type 0 where
+pub record IsSearchUnderway (slots : Slots) (pairs : Pairs) (old states : List State) (old_visits visits : List Visit) : Type 0 where
   pub searching : IsSearching slots pairs states visits
   pub stay : StayDone old states
   pub kept : (slot : ℕ) → IsAmong (visit_slots old_visits) slot → IsDone states slot ⊎ IsAmong (visit_slots visits) slot
 
-pub search_starts : (slots : Slots) (pairs : Pairs) (states : List State) (visits : List Visit) → IsSearching slots pairs states visits → IsUnderway slots pairs states states visits visits
+pub search_starts : (slots : Slots) (pairs : Pairs) (states : List State) (visits : List Visit) → IsSearching slots pairs states visits → IsSearchUnderway slots pairs states states visits visits
 search_starts slots pairs states visits h = record { searching = h; stay = λ z d. d; kept = λ z a. inr a }
 
-pub search_goes_on : (slots : Slots) (pairs : Pairs) (old states new : List State) (old_visits visits new_visits : List Visit) → IsUnderway slots pairs old states old_visits visits → HasStepped slots pairs states new visits new_visits → IsUnderway slots pairs old new old_visits new_visits
+pub search_goes_on : (slots : Slots) (pairs : Pairs) (old states new : List State) (old_visits visits new_visits : List Visit) → IsSearchUnderway slots pairs old states old_visits visits → HasStepped slots pairs states new visits new_visits → IsSearchUnderway slots pairs old new old_visits new_visits
 search_goes_on slots pairs old states new old_visits visits new_visits h s = record {
   searching = s.searching;
   stay = λ z d. s.stay z (h.stay z d);
   kept = λ z a. elim (h.kept z a) [ inl d ↦ inl (s.stay z d) | inr k ↦ s.kept z k ];
 }
 
-pub search_ends : (slots : Slots) (pairs : Pairs) (old states : List State) (old_visits : List Visit) → IsUnderway slots pairs old states old_visits [] → HasSearched slots pairs old states old_visits true
+pub search_ends : (slots : Slots) (pairs : Pairs) (old states : List State) (old_visits : List Visit) → IsSearchUnderway slots pairs old states old_visits [] → HasSearched slots pairs old states old_visits true
 search_ends slots pairs old states old_visits h = (h.searching, h.stay, λ z a. elim (h.kept z a) [ inl d ↦ d | inr n ↦ elim n [ ] ])
 
 -- ---- the same, where the visit is told by an equation

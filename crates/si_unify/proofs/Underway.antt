@@ -11,7 +11,7 @@ use Rattle.si_unify.specs.Unifying.{HasSpot, HasSubterm, AreApart, IsUnderway, H
 use Rattle.si_unify.proofs.Pieces.{all_within}
 
 pub stays : (u : Unifier) → KeepsQuestion u u
-stays u = record { question = refl; trail = refl; keys = refl; heights = refl; slots = refl; heights_room = omega arith; spot_pairs_room = omega arith }
+stays u = record { question = refl; trail = refl; keys = refl; heights = refl; slots = refl; heights_room = omega arith; keys_room = omega arith }
 
 pub goes_further : (old mid new : Unifier) → KeepsQuestion old mid → KeepsQuestion mid new → KeepsQuestion old new
 goes_further old mid new first then = record {
@@ -21,7 +21,7 @@ goes_further old mid new first then = record {
   heights = then.heights ∙ first.heights;
   slots = then.slots ∙ first.slots;
   heights_room = omega (arith, first.heights_room, then.heights_room);
-  spot_pairs_room = omega (arith, first.spot_pairs_room, then.spot_pairs_room);
+  keys_room = omega (arith, first.keys_room, then.keys_room);
 }
 
 -- what was found out by the question as it was at first holds now, and the other way round
@@ -51,7 +51,7 @@ module _ (old new : Unifier) (goes : KeepsQuestion old new) where
         heights = omega (arith, room.heights, ap (λ q. slot_count q.slots) same, goes.heights_room);
         spot_pairs =
             subst (λ q. most_spots (slot_count q.slots) n * most_spots (slot_count q.slots) n ≤ spot_pairs_room new.keys.now) (sym same)
-            (omega (arith, room.spot_pairs, goes.spot_pairs_room));
+            (omega (arith, room.spot_pairs, goes.keys_room));
       }
 
   pub spot_still : (spot : Spot) → IsSpot old.question new.trail.now.pairs spot → HasSpot new spot
@@ -60,8 +60,8 @@ module _ (old new : Unifier) (goes : KeepsQuestion old new) where
   pub subterm_still : (s : Subterm) → IsSubterm old.question new.trail.now.pairs s → HasSubterm new s
   subterm_still s h = subst (λ q. IsSubterm q new.trail.now.pairs s) (sym goes.question) h
 
-  pub apart_still : (pair : SpotPair) → IsApart old.question new.trail.now.pairs pair → AreApart new pair
-  apart_still pair h = subst (λ q. IsApart q new.trail.now.pairs pair) (sym goes.question) h
+  pub are_apart_still : (pair : SpotPair) → IsApart old.question new.trail.now.pairs pair → AreApart new pair
+  are_apart_still pair h = subst (λ q. IsApart q new.trail.now.pairs pair) (sym goes.question) h
 
   pub met_by : (next : Unifier) (left right : Spot) (b : Bool)
       → MakesMeet new next left right b

@@ -18,7 +18,7 @@ use Rattle.si_unify.specs.Spots.{cell_slot}
 use Rattle.si_unify.specs.Rooms.{AreNoLongerThan}
 use Rattle.si_unify.specs.States.{weight, new_slots}
 use Rattle.si_unify.specs.Circles.{if_bound, with_slot, bound_slots, enter_each, pile, visits_of, AreEntered, below_value, slots_below, most_visits, AreNoMore, VisitsLackRoom, IsSearching, visit_slot}
-use Rattle.si_unify.proofs.Places.{all_at}
+use Rattle.si_unify.proofs.Places.{value_holds}
 
 -- ---- new slots
 few_new : (count : ℕ) (states : List State) → new_slots count states ≤ count
@@ -72,7 +72,7 @@ few_below n slots pairs slot within = go (value_at pairs slot) refl
   where
     go : (o : Option (Bor (List Cell))) → value_at pairs slot ≡ o → length (below_value slots pairs o) ≤ n
     go None e = omega arith
-    go (Some v) e = omega (arith, few_bound slots pairs v.now, all_at (λ pair. length pair.1.now ≤ n) pairs slot v within e)
+    go (Some v) e = omega (arith, few_bound slots pairs v.now, value_holds (λ pair. length pair.1.now ≤ n) pairs slot v within e)
 
 -- ---- from visit to visit
 pub entered_below : (slots : Slots) (pairs : Pairs) (states : List State) (slot : ℕ) (visit : Visit) (visits : List Visit) → visit ≡ Enter slot → IsSearching slots pairs states (visit ∷ visits) → slot < slot_count slots

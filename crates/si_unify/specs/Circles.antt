@@ -146,7 +146,7 @@ abbrev pub VisitsLackRoom : Slots → Pairs → List State → ℕ → ℕ → T
 VisitsLackRoom slots pairs states visits room =
     (n : ℕ) → AreNoLongerThan n pairs → room < most_visits n slots states visits
 
--- no more come than were to come
+-- no more visits are left than were before, with those that may still come up
 abbrev pub AreNoMore : Slots → Pairs → List State → List State → ℕ → ℕ → Type 0
 AreNoMore slots pairs old new old_visits new_visits = (n : ℕ) → AreNoLongerThan n pairs
     → most_visits n slots new new_visits ≤ most_visits n slots old old_visits

@@ -1,5 +1,5 @@
 -- Solving equations between flat terms over a list of bindings, each of a slot and a whole slice.
-use Rattle.std.specs.Prelude.{◌≡◌, ℕ, ◌+◌, ◌-◌, ◌<◌, ◌↔◌, ◌⊎◌, nat_lt, Bool, true, false, if◌then◌else◌, List, [], ◌∷◌, ◌++◌}
+use Rattle.std.specs.Prelude.{◌≡◌, ℕ, ◌+◌, ◌-◌, ◌<◌, ◌≤◌, ◌↔◌, ◌⊎◌, nat_lt, Bool, true, false, if◌then◌else◌, List, [], ◌∷◌, ◌++◌}
 use Rattle.std.specs.List.{AllByRecursion}
 use Rattle.std.specs.Borrow.{Bor}
 use Rattle.si_defs.specs.Terms as terms
@@ -85,6 +85,12 @@ pub record IsBinding (slots : Slots) (pair : ℕ × Bor (List Cell)) : Type 0 wh
   pub unfrozen : is_frozen slots (variable_of slots pair.0) ≡ false
   pub whole : IsWhole pair.1.now
   pub in_range : AreInRange slots pair.1.now
+
+-- what the solver asks of a trail with so many slots
+pub record AllowsSolving (slots : Slots) (pairs : Pairs) (count : ℕ) : Type 0 where
+  pub room : slot_count slots ≤ count
+  pub bindings : AllByRecursion (IsBinding slots) pairs
+  pub triangular : IsAcyclic slots pairs
 
 -- ---- where values come from
 -- the piece is a slice of the cells

@@ -49,7 +49,7 @@ pub record KeepsQuestion (old new : Unifier) : Type 0 where
   pub heights : new.heights.ghost_name ≡ old.heights.ghost_name
   pub slots : new.trail.now.slots ≡ old.trail.now.slots
   pub heights_room : old.heights.now.room ≤ new.heights.now.room
-  pub spot_pairs_room : spot_pairs_room old.keys.now ≤ spot_pairs_room new.keys.now
+  pub keys_room : spot_pairs_room old.keys.now ≤ spot_pairs_room new.keys.now
 
 -- ---- the outcomes
 abbrev pub MakesMeet : Unifier → Unifier → Spot → Spot → Bool → Type 0

@@ -39,7 +39,7 @@ pub(crate) struct Buffers {
 }
 
 impl Buffers {
-    // Makes room for all terms and bindings over these slots, where none has more cells.
+    // Makes room for all terms and bindings over these slots, where none has more than `cells`.
     fn reserve(&mut self, slots: &Slots, cells: usize) -> Result<(), AllocError>
         requires { AreClear self.old }
         ensures clear { AreClear self.new }
@@ -114,8 +114,8 @@ impl Scratch {
     /// Makes room to solve any equation over these slots in which neither term and no value has
     /// more than so many cells. [`solve_with`](crate::solve_with) is never refused then.
     ///
-    /// There is a pair of places for each two cells of all these: as many as the square of the
-    /// slots times the cells, so this is for small terms.
+    /// There is room for each pair of spots, which grow with the square of the slots times the
+    /// cells, so this is for small terms.
     ///
     /// # Errors
     ///

@@ -119,7 +119,7 @@ pub fn solve<'a>(
 /// # Errors
 ///
 /// `AllocError` where there is no memory, but never where the scratch has room enough for all terms
-/// and bindings of these sizes. [`Scratch::reserve`] makes so much room.
+/// and bindings as long as these. [`Scratch::reserve`] makes so much room.
 pub fn solve_with<'a>(
     scratch: &mut Scratch,
     trail: &mut Trail<&'a [Cell]>,

@@ -1,7 +1,7 @@
 use Rattle.std.proofs.Common.{◌+◌, length, ap, sym, ◌∙◌, subst, arith}
 use Rattle.std.proofs.lemmas.Result.{IfOk-weaker}
 use Rattle.si_descend.proofs.Retrieving.{has_room, bound_first}
-use Rattle.si_fit.specs.Fitting.{AllowsSolving}
+use Rattle.si_unify.specs.Solving.{AllowsSolving}
 use Rattle.si_descend.proofs.Beginning.{may_begin}
 use Rattle.si_descend.proofs.CountLaws.{counted_answers}
 use Rattle.si_descend.proofs.Starting.{asked_above}

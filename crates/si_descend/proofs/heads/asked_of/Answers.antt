@@ -1,14 +1,14 @@
 use Rattle.std.proofs.Common.{sym}
 use Rattle.si_unify.specs.Solving.{IsBinding}
-use Rattle.si_unify.proofs.Places.{all_at}
+use Rattle.si_unify.proofs.Places.{value_holds}
 use Rattle.si_descend.proofs.HeadLaws.{split_wanted}
 use Rattle.si_descend.proofs.heads.asked_of.Goals as goal
 
 pub end_of-end-requires-clause-whole : goal.end_of-end-requires-clause-whole
-end_of-end-requires-clause-whole c = (all_at (IsBinding c.args.search.now.slots) c.args.trail.now.pairs _ c.in-Some-get.value.now c.requires.solving.bindings (sym c.in-Some-get.ensures)).whole
+end_of-end-requires-clause-whole c = (value_holds (IsBinding c.args.search.now.slots) c.args.trail.now.pairs _ c.in-Some-get.value.now c.requires.solving.bindings (sym c.in-Some-get.ensures)).whole
 
 pub end_of-end-requires-clause-range : goal.end_of-end-requires-clause-range
-end_of-end-requires-clause-range c = (all_at (IsBinding c.args.search.now.slots) c.args.trail.now.pairs _ c.in-Some-get.value.now c.requires.solving.bindings (sym c.in-Some-get.ensures)).in_range
+end_of-end-requires-clause-range c = (value_holds (IsBinding c.args.search.now.slots) c.args.trail.now.pairs _ c.in-Some-get.value.now c.requires.solving.bindings (sym c.in-Some-get.ensures)).in_range
 
 pub first-requires : goal.first-requires
 first-requires c = (c.end_of-end.ensures.ends.last, c.end_of-end.ensures.ends.last_stands)

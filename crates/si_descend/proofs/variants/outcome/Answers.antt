@@ -1,6 +1,6 @@
 use Rattle.std.proofs.Common.{get_or, sym}
 use Rattle.si_unify.specs.Solving.{IsBinding}
-use Rattle.si_unify.proofs.Places.{all_at, whole_at, inside}
+use Rattle.si_unify.proofs.Places.{value_holds, whole_at, inside}
 use Rattle.si_fit.proofs.EndLaws.{no_cell}
 use Rattle.si_descend.proofs.RenameLaws.{never_unbound, query_range, became_query, became_other, app_no_query, entry_cell_no_query, ind_cell_no_query}
 use Rattle.si_descend.proofs.variants.outcome.Goals as goal
@@ -10,10 +10,10 @@ unreachable-requires c =
     never_unbound c.args.slots.now c.args.trail.now.pairs c.args.trail.now.slots c.requires.frozen c.requires.solving c.requires.distinct c.args.n c.slot-slot.result c.slot-slot.ensures c.in_default.ensures
 
 pub end_of-end-requires-clause-whole : goal.end_of-end-requires-clause-whole
-end_of-end-requires-clause-whole c = (all_at (IsBinding c.args.slots.now) c.args.trail.now.pairs c.slot-slot.result c.in-Some.value.now c.requires.solving.bindings (sym c.in-Some.ensures)).whole
+end_of-end-requires-clause-whole c = (value_holds (IsBinding c.args.slots.now) c.args.trail.now.pairs c.slot-slot.result c.in-Some.value.now c.requires.solving.bindings (sym c.in-Some.ensures)).whole
 
 pub end_of-end-requires-clause-range : goal.end_of-end-requires-clause-range
-end_of-end-requires-clause-range c = (all_at (IsBinding c.args.slots.now) c.args.trail.now.pairs c.slot-slot.result c.in-Some.value.now c.requires.solving.bindings (sym c.in-Some.ensures)).in_range
+end_of-end-requires-clause-range c = (value_holds (IsBinding c.args.slots.now) c.args.trail.now.pairs c.slot-slot.result c.in-Some.value.now c.requires.solving.bindings (sym c.in-Some.ensures)).in_range
 
 pub bounds-0 : goal.bounds-0
 bounds-0 c = inside c.end_of-end.result.now 0 c.end_of-end.ensures.ends.last (whole_at c.end_of-end.result.now c.end_of-end.ensures.ends.last c.end_of-end.ensures.ends.last_stands)

@@ -1,5 +1,5 @@
 use Rattle.std.proofs.Common.{refl, sym, ◌∙◌, subst, arith}
-use Rattle.si_fit.specs.Fitting.{AllowsSolving}
+use Rattle.si_unify.specs.Solving.{AllowsSolving}
 use Rattle.si_fit.proofs.WalkLaws.{walk_starts, left_inside, walk_descends, heads_differ, other_some, left_within, walk_goes_on, walk_stays, walk_clashes, walk_ends}
 use Rattle.si_fit.proofs.FillTurns.{still_new, first_new, new_on}
 use Rattle.si_fit.proofs.filling.fill.Goals as goal

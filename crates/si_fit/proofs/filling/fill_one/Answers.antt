@@ -1,10 +1,9 @@
 use Rattle.std.proofs.Common.{sym, ap, subst}
 use Rattle.si_flat.specs.Cells.{ind}
 use Rattle.si_flat.proofs.Subterms.{some_cell}
-use Rattle.si_unify.specs.Solving.{slot_of, CellIsInRange}
+use Rattle.si_unify.specs.Solving.{slot_of, CellIsInRange, AllowsSolving}
 use Rattle.si_unify.specs.Spots.{free_slot}
 use Rattle.si_unify.proofs.Places.{in_range-at}
-use Rattle.si_fit.specs.Fitting.{AllowsSolving}
 use Rattle.si_fit.specs.Meeting.{slot_cells, HasMet}
 use Rattle.si_fit.specs.declared.meeting.Met.TheVariants.{Equal}
 use Rattle.si_fit.proofs.EndLaws.{no_cell}

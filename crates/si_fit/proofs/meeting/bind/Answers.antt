@@ -1,6 +1,6 @@
 use Rattle.std.proofs.Common.{sym, subst}
 use Rattle.si_flat.proofs.Subterms.{some_cell}
-use Rattle.si_fit.specs.Fitting.{AllowsSolving}
+use Rattle.si_unify.specs.Solving.{AllowsSolving}
 use Rattle.si_fit.specs.Meeting.{slot_cells, HasMet}
 use Rattle.si_fit.specs.declared.meeting.Met.TheVariants.{Equal}
 use Rattle.si_fit.proofs.BindLaws.{bound_met, bound_ready}

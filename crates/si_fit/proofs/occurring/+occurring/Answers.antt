@@ -2,7 +2,7 @@ use Rattle.std.proofs.Common.{◌≡◌, take_all, sym, subst, arith, Some}
 use Rattle.si_defs.proofs.ListLaws.{all_get}
 use Rattle.si_unify.specs.Solving.{CellIsInRange, IsBinding}
 use Rattle.si_unify.specs.Spots.{cell_slot}
-use Rattle.si_unify.proofs.Places.{all_at}
+use Rattle.si_unify.proofs.Places.{value_holds}
 use Rattle.si_fit.specs.Occurring.{Avoids}
 use Rattle.si_fit.proofs.EndLaws.{no_cell}
 use Rattle.si_fit.proofs.OccurringLaws.{avoids_more, symbol_avoids, unbound_avoids, itself_occurs, value_searched, one_occurs}
@@ -22,7 +22,7 @@ search_cell-returns-in_default-get-clause-found t c =
 pub search_cell-search_deep-requires : goal.search_cell-search_deep-requires
 search_cell-search_deep-requires t c = (
   omega (arith, c.decreases, c.if-budget-eq0.false),
-  ((all_at (IsBinding c.args.slots.now) c.args.trail.now.pairs c.in-Some.other c.in-Some-get.value.now c.requires.bindings (sym c.in-Some-get.ensures)).in_range, c.requires.bindings),
+  ((value_holds (IsBinding c.args.slots.now) c.args.trail.now.pairs c.in-Some.other c.in-Some-get.value.now c.requires.bindings (sym c.in-Some-get.ensures)).in_range, c.requires.bindings),
 )
 
 pub search_cell-returns-clause-found : goal.search_cell-returns-clause-found

@@ -1,8 +1,7 @@
 use Rattle.std.proofs.Common.{◌≡◌, true, false, refl, sym, ◌∙◌, subst, arith}
 use Rattle.si_flat.proofs.Subterms.{some_cell}
-use Rattle.si_unify.specs.Solving.{IsBinding}
-use Rattle.si_unify.proofs.Places.{all_at}
-use Rattle.si_fit.specs.Fitting.{AllowsSolving}
+use Rattle.si_unify.specs.Solving.{IsBinding, AllowsSolving}
+use Rattle.si_unify.proofs.Places.{value_holds}
 use Rattle.si_fit.proofs.WalkLaws.{walk_starts, left_inside, walk_descends, heads_differ, other_some, left_within, walk_goes_on, walk_stays, walk_clashes, walk_ends, cut_in_range}
 use Rattle.si_fit.proofs.LengthLaws.{left_stays, right_stays}
 use Rattle.si_fit.proofs.MeetLaws.{IsVariable, variable_at, variable_met, slot_met, left_met, right_met, heads_clash, fixed_free, other_free, left_followed, right_followed}
@@ -84,7 +83,7 @@ meet-meet_fixed-requires t c = (omega (arith, c.decreases), (c.requires.terms, (
 
 pub meet-follow-requires : goal.meet-follow-requires
 meet-follow-requires t c =
-    let value = all_at (IsBinding c.args.slots.now) c.args.trail.now.pairs c.in-Some.slot c.in-Some-value_at.value c.requires.terms.ready.bindings (sym c.in-Some-value_at.ensures) in (
+    let value = value_holds (IsBinding c.args.slots.now) c.args.trail.now.pairs c.in-Some.slot c.in-Some-value_at.value c.requires.terms.ready.bindings (sym c.in-Some-value_at.ensures) in (
       omega (arith, c.decreases),
       record { left = c.requires.terms.left; right = value.whole; left_range = c.requires.terms.left_range; right_range = value.in_range; ready = c.requires.terms.ready },
     )
@@ -102,7 +101,7 @@ meet_fixed-bounds-left-0 t c =
 
 pub meet_fixed-follow-requires : goal.meet_fixed-follow-requires
 meet_fixed-follow-requires t c =
-    let value = all_at (IsBinding c.args.slots.now) c.args.trail.now.pairs c.in-Some.slot c.in-Some-value_at.value c.requires.terms.ready.bindings (sym c.in-Some-value_at.ensures) in (
+    let value = value_holds (IsBinding c.args.slots.now) c.args.trail.now.pairs c.in-Some.slot c.in-Some-value_at.value c.requires.terms.ready.bindings (sym c.in-Some-value_at.ensures) in (
       omega (arith, c.decreases),
       record { left = value.whole; right = c.requires.terms.right; left_range = value.in_range; right_range = c.requires.terms.right_range; ready = c.requires.terms.ready },
     )
@@ -117,7 +116,7 @@ meet_unbound-bounds-left-0 t c =
 
 pub meet_unbound-follow-requires : goal.meet_unbound-follow-requires
 meet_unbound-follow-requires t c =
-    let value = all_at (IsBinding c.args.slots.now) c.args.trail.now.pairs c.in-Some.own c.in-Some-value_at.value c.requires.terms.ready.bindings (sym c.in-Some-value_at.ensures) in (
+    let value = value_holds (IsBinding c.args.slots.now) c.args.trail.now.pairs c.in-Some.own c.in-Some-value_at.value c.requires.terms.ready.bindings (sym c.in-Some-value_at.ensures) in (
       omega (arith, c.decreases),
       record { left = value.whole; right = c.requires.terms.right; left_range = value.in_range; right_range = c.requires.terms.right_range; ready = c.requires.terms.ready },
     )

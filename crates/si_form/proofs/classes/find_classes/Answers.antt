@@ -1,7 +1,7 @@
 use Rattle.std.proofs.Common.{length, sym, subst, arith}
 use Rattle.std.proofs.lemmas.List.{nil_from_length}
 use Rattle.si_unify.specs.Solving.{IsBinding}
-use Rattle.si_unify.proofs.Places.{all_at}
+use Rattle.si_unify.proofs.Places.{value_holds}
 use Rattle.si_form.specs.Ordering.{uses_at, HasNoCircle, AreOrdered}
 use Rattle.si_form.specs.Classes.{HasClass}
 use Rattle.si_form.proofs.UsesLaws.{no_circle}
@@ -24,10 +24,10 @@ loop-slot-preserved-in_default-get c =
     _ _ _ _ c.in-Some.slot c.in-Some.ensures.items c.loop-slot.invariant (sym c.in_default-get.ensures)
 
 pub class_of-requires-clause-whole : goal.class_of-requires-clause-whole
-class_of-requires-clause-whole c = (all_at (IsBinding c.args.slots.now) c.args.trail.now.pairs c.in-Some.slot c.in-Some-get.value.now c.requires.bindings (sym c.in-Some-get.ensures)).whole
+class_of-requires-clause-whole c = (value_holds (IsBinding c.args.slots.now) c.args.trail.now.pairs c.in-Some.slot c.in-Some-get.value.now c.requires.bindings (sym c.in-Some-get.ensures)).whole
 
 pub class_of-requires-clause-range : goal.class_of-requires-clause-range
-class_of-requires-clause-range c = (all_at (IsBinding c.args.slots.now) c.args.trail.now.pairs c.in-Some.slot c.in-Some-get.value.now c.requires.bindings (sym c.in-Some-get.ensures)).in_range
+class_of-requires-clause-range c = (value_holds (IsBinding c.args.slots.now) c.args.trail.now.pairs c.in-Some.slot c.in-Some-get.value.now c.requires.bindings (sym c.in-Some-get.ensures)).in_range
 
 pub change-requires : goal.change-requires
 change-requires c =

@@ -1,6 +1,6 @@
 use Rattle.std.proofs.Common.{sym, ◌∙◌, arith}
 use Rattle.si_unify.specs.Solving.{IsBinding}
-use Rattle.si_unify.proofs.Places.{all_at}
+use Rattle.si_unify.proofs.Places.{value_holds}
 use Rattle.si_form.proofs.DownLaws.{down_begins, down_unbound, down_ends, value_inside, down_more, down_applies}
 use Rattle.si_form.proofs.unifying.application_size.Goals as goal
 
@@ -16,7 +16,7 @@ bounds-value-0 c =
     value_inside c.args.slots.now c.args.trail.now.pairs c.requires.bindings c.args.slot c.loop.at c.loop.counter c.loop.invariant c.in-Some.value.now (sym c.in-Some.ensures)
 
 pub size-requires : goal.size-requires
-size-requires c = (all_at (IsBinding c.args.slots.now) c.args.trail.now.pairs c.loop.at c.in-Some.value.now c.requires.bindings (sym c.in-Some.ensures)).whole
+size-requires c = (value_holds (IsBinding c.args.slots.now) c.args.trail.now.pairs c.loop.at c.in-Some.value.now c.requires.bindings (sym c.in-Some.ensures)).whole
 
 pub returns-in_default-slot_of : goal.returns-in_default-slot_of
 returns-in_default-slot_of c =

@@ -1,7 +1,8 @@
 use Rattle.std.proofs.Common.{◌≡◌, ℕ, ◌-◌, ◌<◌, ◌≤◌, [], length, drop}
 use Rattle.si_state.specs.Subsumption.{IsLeast}
 use Rattle.si_subsume.specs.Parts.{select, parts_from}
-use Rattle.si_subsume.specs.Search.{AllowsSolving, CanEnd}
+use Rattle.si_unify.specs.Solving.{AllowsSolving}
+use Rattle.si_subsume.specs.Search.{CanEnd}
 use Rattle.si_subsume.proofs.apart.search_parts.Given as goal
 
 abbrev pub invariant-loop-label : goal.invariant-loop-label

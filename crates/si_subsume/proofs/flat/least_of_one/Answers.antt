@@ -5,7 +5,8 @@ use Rattle.si_defs.proofs.ListLaws.{all_weaker}
 use Rattle.si_flat.specs.declared.Cell.{Cell}
 use Rattle.si_trail.specs.Trails.{Trail}
 use Rattle.si_subsume.specs.declared.search.Choice.{Choice}
-use Rattle.si_subsume.specs.Search.{AllowsSolving, AnswersSearch}
+use Rattle.si_unify.specs.Solving.{AllowsSolving}
+use Rattle.si_subsume.specs.Search.{AnswersSearch}
 use Rattle.si_subsume.proofs.flat.least_of_one.Goals as goal
 
 pub search-requires-clause-ready : goal.search-requires-clause-ready

@@ -1,5 +1,5 @@
 use Rattle.std.proofs.Common.{◌≡◌, [], sym, subst, rules}
-use Rattle.si_subsume.specs.Search.{AllowsSolving}
+use Rattle.si_unify.specs.Solving.{AllowsSolving}
 use Rattle.si_subsume.proofs.Choices.{dead_last, dead_start, retreated, ready_again}
 use Rattle.si_subsume.proofs.search.retreat.Goals as goal
 

@@ -1,7 +1,7 @@
 use Rattle.std.proofs.Common.{◌≡◌, ◌≤◌, length, reverse}
 use Rattle.std.specs.Prelude.{vec_capacity}
 use Rattle.si_unify.specs.Circles.{AreNoMore, work}
-use Rattle.si_unify.proofs.Searching.{IsUnderway}
+use Rattle.si_unify.proofs.Searching.{IsSearchUnderway}
 use Rattle.si_unify.proofs.circles.search.Given as goal
 
 pub record Invariant (underway no_more keeps same : Type 0) : Type 0 where
@@ -12,7 +12,7 @@ pub record Invariant (underway no_more keeps same : Type 0) : Type 0 where
 
 abbrev pub invariant-loop-visit : goal.invariant-loop-visit
 invariant-loop-visit l =
-    Invariant (IsUnderway l.slots l.trail.pairs l.fn.states.items l.states.items (reverse l.fn.visits.items) (reverse l.visits.items))
+    Invariant (IsSearchUnderway l.slots l.trail.pairs l.fn.states.items l.states.items (reverse l.fn.visits.items) (reverse l.visits.items))
     (AreNoMore l.slots l.trail.pairs l.fn.states.items l.states.items (length l.fn.visits.items) (length l.visits.items))
     (vec_capacity l.fn.visits ≤ vec_capacity l.visits)
     (l.states.room ≡ l.fn.states.room)

@@ -3,7 +3,7 @@ use Rattle.std.proofs.lemmas.Grind.{get_or_default_zero}
 use Rattle.std.specs.Prelude.{min}
 use Rattle.std.proofs.Math.ListN.{set}
 use Rattle.si_unify.specs.Heights.{height, IsRaised}
-use Rattle.si_unify.proofs.HeightLaws.{stay, raised}
+use Rattle.si_unify.proofs.HeightLaws.{stay, height_raised}
 use Rattle.si_unify.proofs.heights.Heights.raise.Goals.{then-len-count+in_ok-resize, else-len-count}
 use Rattle.si_unify.proofs.heights.Heights.raise.Goals as goal
 
@@ -25,5 +25,5 @@ returns-then-slot-len-clause-raised c =
       | else-len-count w ↦ λ other. ap (λ i. height i.heights.items other) w.self-inside-is
     ] in
     subst (λ h. IsRaised c.args.count c.args.slot h.items (set grown c.args.slot c.saturating_add.result)) c.self.view_is
-    (raised old grown c.args.count c.args.slot c.saturating_add.result same less
+    (height_raised old grown c.args.count c.args.slot c.saturating_add.result same less
     (c.saturating_add.ensures ∙ ap (λ h. min (h + 1) 255) (c.index.ensures ∙ get_or_default_zero grown c.args.slot c.index.result.now less ∙ same c.args.slot)))

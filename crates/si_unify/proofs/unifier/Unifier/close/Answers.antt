@@ -4,7 +4,7 @@ use Rattle.si_unify.specs.Spots.{IsApart}
 use Rattle.si_unify.specs.Unifying.{SpotsLackRoom, MakesCompared}
 use Rattle.si_unify.proofs.Closing.{closing_starts, closing_goes_on, closing_fails, closing_ends}
 use Rattle.si_term.proofs.Results.{on_err}
-use Rattle.si_unify.proofs.Underway.{stays, goes_further, underway_still, room_still, spot_still, apart_still, compared_by}
+use Rattle.si_unify.proofs.Underway.{stays, goes_further, underway_still, room_still, spot_still, are_apart_still, compared_by}
 use Rattle.si_unify.proofs.unifier.Unifier.close.Goals as goal
 
 pub loop-next-init : goal.loop-next-init
@@ -37,7 +37,7 @@ compare-requires-clause-underway c =
 
 pub compare-requires-clause-apart : goal.compare-requires-clause-apart
 compare-requires-clause-apart c =
-    apart_still c.args.self.now c.loop-next.self c.loop-next.invariant.going_on _
+    are_apart_still c.args.self.now c.loop-next.self c.loop-next.invariant.going_on _
     (all_got (IsApart c.args.self.now.question c.loop-next.self.trail.now.pairs) c.loop-next.self.keys.now.keys c.loop-next.next c.index-pair.result.now c.loop-next.invariant.closing_on.going.keys c.index-pair.ensures)
 
 pub returns-then-not-branch-clause-closed : goal.returns-then-not-branch-clause-closed

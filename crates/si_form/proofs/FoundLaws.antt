@@ -12,7 +12,7 @@ use Rattle.si_unify.specs.declared.slots.Slots.{Slots}
 use Rattle.si_unify.specs.Solving.{Pairs, slot_count, variable_of}
 use Rattle.si_form.specs.declared.classes.Node.{Node}
 use Rattle.si_form.specs.Classes.{HasClasses}
-use Rattle.si_form.specs.Folding.{leader, variable_or, folded, folded_all, AreClasses, AreLeaders, HasTerms, Folded, IsFolded, CanFold, HasFolded}
+use Rattle.si_form.specs.Folding.{leader, variable_or, folded, folded_all, AreClasses, AreLeaders, HasTerms, Folded, IsFolding, CanFold, HasFolded}
 use Rattle.si_form.specs.Unifying.{IsApplication, StaysFree, IsToBind, IsRightSide, IsGeneral, HasGeneral, AreFound, IsBoundTo, HasRightSide, HaveRightSides}
 use Rattle.si_form.specs.Ordering.{list_of}
 use Rattle.si_form.proofs.UsesLaws.{get_or_front, get_or_last}
@@ -58,7 +58,7 @@ pub record IsClassOf (slots : Slots) (f : Variable → Term) (folding : Folded) 
   pub image_is : slice_get known class ≡ Some (f (variable_of slots slot))
   pub leader_is : slice_get folding.leaders class ≡ Some (leader slots f (f (variable_of slots slot)))
 
-module _ (slots : Slots) (pairs : Pairs) (folding : Folded) (folds : IsFolded folding) (found : AreFound slots pairs folding) (slot class : ℕ) (inside : slot < slot_count slots) (class_is : slice_get folding.classes slot ≡ Some class) where
+module _ (slots : Slots) (pairs : Pairs) (folding : Folded) (folds : IsFolding folding) (found : AreFound slots pairs folding) (slot class : ℕ) (inside : slot < slot_count slots) (class_is : slice_get folding.classes slot ≡ Some class) where
   class_of : (f : Variable → Term) → IsGeneral slots pairs f → IsClassOf slots f folding slot class
   class_of f general =
       let knows = found.classes_are.knows f general.solves general.leaves in

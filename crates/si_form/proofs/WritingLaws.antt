@@ -13,7 +13,7 @@ use Rattle.si_flat.proofs.Subterms.{length-cells_of, length-cells_of_all}
 use Rattle.si_unify.specs.declared.slots.Slots.{Slots}
 use Rattle.si_unify.specs.Solving.{slot_count, variable_of}
 use Rattle.si_unify.proofs.Rows.{cells-join}
-use Rattle.si_form.specs.Folding.{leader, variable_or, folded, folded_all, HaveKnown, Folded, IsFolded, CanFold, HasFolded, Descends, WritesCells, HasWritten, IsWriting}
+use Rattle.si_form.specs.Folding.{leader, variable_or, folded, folded_all, HaveKnown, Folded, IsFolding, CanFold, HasFolded, Descends, WritesCells, HasWritten, IsWriting}
 use Rattle.si_form.proofs.SizeLaws.{exact_sizes}
 use Rattle.si_form.proofs.RightSides.{led}
 
@@ -27,7 +27,7 @@ all_variables-join P (terms.more t ts) us h k =
     all_append P (terms.variables t) (terms.variables_of_all (join ts us)) (all_front P (terms.variables t) (terms.variables_of_all ts) h)
     (all_variables-join P ts us (all_back P (terms.variables t) (terms.variables_of_all ts) h) k)
 
-module _ (slots : Slots) (folding : Folded) (folds : IsFolded folding) (class : ℕ) where
+module _ (slots : Slots) (folding : Folded) (folds : IsFolding folding) (class : ℕ) where
   abbrev IsLed : (Variable → Term) → Variable → Type 0
   IsLed f y = leader slots f (terms.var y) ≡ None → ⊥
 
@@ -175,7 +175,7 @@ symbol_written folding left left' cells cells' class a b size h size_is is slots
       r.1,
     )
 
-pub none_left : (slots : Slots) (folding : Folded) → IsFolded folding → (class : ℕ) (left : List ℕ) (cells : List Cell) (k : ℕ) → left ≡ [] → IsWriting slots folding class cells left k → HasFolded slots folding class cells
+pub none_left : (slots : Slots) (folding : Folded) → IsFolding folding → (class : ℕ) (left : List ℕ) (cells : List Cell) (k : ℕ) → left ≡ [] → IsWriting slots folding class cells left k → HasFolded slots folding class cells
 none_left slots folding folds class left cells k none h f known t can =
     written_none slots folding folds class f known t can cells k (subst (λ l. HasWritten slots f known t cells l k) none (h f known t can))
 
@@ -184,7 +184,7 @@ pub record IsAsked (slots : Slots) (folding : Folded) (next : ℕ) : Type 0 wher
   pub class_inside : next < length folding.nodes
   pub slot_inside : (slot : ℕ) → get_or folding.leaders next None ≡ Some slot → slot < slot_count slots
 
-pub asked : (slots : Slots) (folding : Folded) → IsFolded folding → (class next : ℕ) (left : List ℕ) (cells : List Cell) (k : ℕ) (f : Variable → Term) (known : List Term) (t : Term) → CanFold slots folding class f known t → HasWritten slots f known t cells (next ∷ left) k → IsAsked slots folding next
+pub asked : (slots : Slots) (folding : Folded) → IsFolding folding → (class next : ℕ) (left : List ℕ) (cells : List Cell) (k : ℕ) (f : Variable → Term) (known : List Term) (t : Term) → CanFold slots folding class f known t → HasWritten slots f known t cells (next ∷ left) k → IsAsked slots folding next
 asked slots folding folds class next left cells k f known t can h =
     let n = next_of slots folding folds class f known t can next left cells k h in
     record {
@@ -192,7 +192,7 @@ asked slots folding folds class next left cells k f known t can h =
       slot_inside = λ slot e. (led slots f (slot_count slots) slot n.term (sym (get_or_from_slice_get folding.leaders next (leader slots f n.term) None n.leader_at) ∙ e)).below;
     }
 
-module _ (slots : Slots) (folding : Folded) (folds : IsFolded folding) (class next : ℕ) (left left' : List ℕ) (cells : List Cell) (k : ℕ) (is : left ≡ next ∷ left') (h : IsWriting slots folding class cells left k) where
+module _ (slots : Slots) (folding : Folded) (folds : IsFolding folding) (class next : ℕ) (left left' : List ℕ) (cells : List Cell) (k : ℕ) (is : left ≡ next ∷ left') (h : IsWriting slots folding class cells left k) where
   taken : (f : Variable → Term) (known : List Term) (t : Term) → CanFold slots folding class f known t → HasWritten slots f known t cells (next ∷ left') k
   taken f known t can = subst (λ l. HasWritten slots f known t cells l k) is (h f known t can)
 
@@ -207,7 +207,7 @@ module _ (slots : Slots) (folding : Folded) (folds : IsFolded folding) (class ne
   writes_symbol left2 cells' led writes f known t can =
       written_symbol slots folding folds class f known t can next left' left2 cells cells' k (next_of slots folding folds class f known t can next left' cells k (taken f known t can)) led writes
 
-pub all_written : (slots : Slots) (folding : Folded) → IsFolded folding → (class : ℕ) (left : List ℕ) (cells : List Cell) (k : ℕ) → get_or folding.sizes class 0 ≤ k → IsWriting slots folding class cells left k → HasFolded slots folding class cells
+pub all_written : (slots : Slots) (folding : Folded) → IsFolding folding → (class : ℕ) (left : List ℕ) (cells : List Cell) (k : ℕ) → get_or folding.sizes class 0 ≤ k → IsWriting slots folding class cells left k → HasFolded slots folding class cells
 all_written slots folding folds class left cells k less h f known t can =
     let size = size_at slots folding folds class f known t can class t can.class_is can.fits in
     written_all slots folding folds class f known t can cells left k (omega (arith, less, size)) (h f known t can)

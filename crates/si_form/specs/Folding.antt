@@ -154,7 +154,7 @@ folded_of f =
       sizes = f.sizes.items;
     }
 
-pub record IsFolded (f : Folded) : Type 0 where
+pub record IsFolding (f : Folded) : Type 0 where
   pub terms : HasTerms f.nodes
   pub long : length f.leaders ≡ length f.nodes
   pub leads : (slots : Slots) → LeadClasses slots f.nodes f.classes (length f.classes) f.leaders

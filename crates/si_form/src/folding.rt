@@ -4,7 +4,7 @@ ghost use Rattle.std.specs.Prelude.{IfOk, OnOk};
 ghost use Rattle.std.specs.List.{AllByRecursion};
 ghost use Rattle.si_flat.specs.Cells.{Variable, Term};
 ghost use Rattle.si_form.specs.Folding.{HasTerms, Descends, part_size, node_size, IsBefore};
-ghost use Rattle.si_form.specs.Folding.{AreSizes, WritesCells, CanFold, HasFolded, IsFolded};
+ghost use Rattle.si_form.specs.Folding.{AreSizes, WritesCells, CanFold, HasFolded, IsFolding};
 
 use crate::classes::{Classes, Node};
 use crate::leaders::leaders;
@@ -26,13 +26,13 @@ pub(crate) struct Folding {
 }
 
 impl Model for Folding {
-    ghost use Rattle.si_form.specs.Folding.{Folded, folded_of, IsFolded};
+    ghost use Rattle.si_form.specs.Folding.{Folded, folded_of, IsFolding};
 
     ghost Value = { Folded };
 
     ghost view = { folded_of };
 
-    ghost invariant = { λ f. IsFolded (folded_of f) };
+    ghost invariant = { λ f. IsFolding (folded_of f) };
 }
 
 // The symbol of a class and its arity. The classes of the arguments are piled up, the first one on
@@ -137,7 +137,7 @@ impl Folding {
     pub(crate) fn class_at(&self, slot: usize) -> usize
         requires { slot < length self.now.classes }
         ensures class { slice_get self.now.classes slot ≡ Some result }
-        ensures folded { IsFolded self.now }
+        ensures folded { IsFolding self.now }
     {
         self.classes.of_slots[slot]
     }

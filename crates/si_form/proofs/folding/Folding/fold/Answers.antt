@@ -1,18 +1,18 @@
 use Rattle.std.proofs.Common.{◌≡◌, ◌<◌, ◌∷◌, ◌++◌, ◌≤◌, [], get_or, length, reverse, refl, sym, ◌∙◌, ap, subst, arith}
 use Rattle.std.proofs.lemmas.Option.{get_or_from_slice_get, slice_get_read, slice_get_within}
 use Rattle.std.proofs.lemmas.List.{reverse-append}
-use Rattle.si_form.specs.Folding.{Folded, IsFolded, WritesCells}
+use Rattle.si_form.specs.Folding.{Folded, IsFolding, WritesCells}
 use Rattle.si_form.proofs.NodeLaws.{none_piled}
 use Rattle.si_form.proofs.WritingLaws.{writing_begins, all_written, none_left, asked_of, writes_variable, writes_symbol}
 use Rattle.si_form.proofs.folding.Folding.fold.Goals as goal
 
 pub returns-in_default : goal.returns-in_default
 returns-in_default c =
-    none_left c.args.slots.now _ (subst IsFolded c.self.view_is c.self.invariant) _ _ c.loop.cells.items c.loop.counter (none_piled c.loop.left.items (omega (arith, c.in_default.ensures.cases.0, c.loop.left.ok))) c.loop.invariant
+    none_left c.args.slots.now _ (subst IsFolding c.self.view_is c.self.invariant) _ _ c.loop.cells.items c.loop.counter (none_piled c.loop.left.items (omega (arith, c.in_default.ensures.cases.0, c.loop.left.ok))) c.loop.invariant
 
 pub loop-init : goal.loop-init
 loop-init c =
-    writing_begins c.args.slots.now c.args.self.now (subst IsFolded c.self.view_is c.self.invariant) c.args.class (reverse c.write_symbol.new.left.items) c.write_symbol.new.cells.items
+    writing_begins c.args.slots.now c.args.self.now (subst IsFolding c.self.view_is c.self.invariant) c.args.class (reverse c.write_symbol.new.left.items) c.write_symbol.new.cells.items
     (
     subst (λ l. WritesCells c.args.self.now l (reverse c.write_symbol.new.left.items) [] c.write_symbol.new.cells.items c.args.class) (ap reverse c.new-left.ensures.items)
     (subst (λ l. WritesCells c.args.self.now (reverse c.new-left.result.items) (reverse c.write_symbol.new.left.items) l c.write_symbol.new.cells.items c.args.class) c.new-cells.ensures.items c.in_ok-write_symbol.ensures)
@@ -20,24 +20,24 @@ loop-init c =
 
 pub leader_of-requires : goal.leader_of-requires
 leader_of-requires c =
-    (asked_of c.args.slots.now _ (subst IsFolded c.self.view_is c.self.invariant) _ c.in-Some.next _ (reverse c.pop.new.self.items) _ _ (ap reverse c.in-Some.ensures.items ∙ reverse-append c.pop.new.self.items (c.in-Some.next ∷ [])) c.loop.invariant c.requires.folds).class_inside
+    (asked_of c.args.slots.now _ (subst IsFolding c.self.view_is c.self.invariant) _ c.in-Some.next _ (reverse c.pop.new.self.items) _ _ (ap reverse c.in-Some.ensures.items ∙ reverse-append c.pop.new.self.items (c.in-Some.next ∷ [])) c.loop.invariant c.requires.folds).class_inside
 
 pub write_symbol-requires-in_default-leader_of : goal.write_symbol-requires-in_default-leader_of
 write_symbol-requires-in_default-leader_of c =
-    (asked_of c.args.slots.now _ (subst IsFolded c.self.view_is c.self.invariant) _ c.in-Some.next _ (reverse c.pop.new.self.items) _ _ (ap reverse c.in-Some.ensures.items ∙ reverse-append c.pop.new.self.items (c.in-Some.next ∷ [])) c.loop.invariant c.requires.folds).class_inside
+    (asked_of c.args.slots.now _ (subst IsFolding c.self.view_is c.self.invariant) _ c.in-Some.next _ (reverse c.pop.new.self.items) _ _ (ap reverse c.in-Some.ensures.items ∙ reverse-append c.pop.new.self.items (c.in-Some.next ∷ [])) c.loop.invariant c.requires.folds).class_inside
 
 pub cell_of-requires : goal.cell_of-requires
 cell_of-requires c =
-    (asked_of c.args.slots.now _ (subst IsFolded c.self.view_is c.self.invariant) _ c.in-Some.next _ (reverse c.pop.new.self.items) _ _ (ap reverse c.in-Some.ensures.items ∙ reverse-append c.pop.new.self.items (c.in-Some.next ∷ [])) c.loop.invariant c.requires.folds).slot_inside c.in-Some-leader_of.slot (sym c.leader_of.ensures ∙ c.in-Some-leader_of.is)
+    (asked_of c.args.slots.now _ (subst IsFolding c.self.view_is c.self.invariant) _ c.in-Some.next _ (reverse c.pop.new.self.items) _ _ (ap reverse c.in-Some.ensures.items ∙ reverse-append c.pop.new.self.items (c.in-Some.next ∷ [])) c.loop.invariant c.requires.folds).slot_inside c.in-Some-leader_of.slot (sym c.leader_of.ensures ∙ c.in-Some-leader_of.is)
 
 pub loop-preserved-in_default-leader_of : goal.loop-preserved-in_default-leader_of
 loop-preserved-in_default-leader_of c =
-    writes_symbol c.args.slots.now _ (subst IsFolded c.self.view_is c.self.invariant) _ c.in-Some.next _ (reverse c.pop.new.self.items) c.loop.cells.items c.loop.counter (ap reverse c.in-Some.ensures.items ∙ reverse-append c.pop.new.self.items (c.in-Some.next ∷ [])) c.loop.invariant
+    writes_symbol c.args.slots.now _ (subst IsFolding c.self.view_is c.self.invariant) _ c.in-Some.next _ (reverse c.pop.new.self.items) c.loop.cells.items c.loop.counter (ap reverse c.in-Some.ensures.items ∙ reverse-append c.pop.new.self.items (c.in-Some.next ∷ [])) c.loop.invariant
     _ _ (sym c.leader_of.ensures ∙ c.in_default-leader_of.is) c.in_ok-write_symbol-2.ensures
 
 pub loop-preserved : goal.loop-preserved
 loop-preserved c =
-    writes_variable c.args.slots.now _ (subst IsFolded c.self.view_is c.self.invariant) _ c.in-Some.next _ (reverse c.pop.new.self.items) c.loop.cells.items c.loop.counter (ap reverse c.in-Some.ensures.items ∙ reverse-append c.pop.new.self.items (c.in-Some.next ∷ [])) c.loop.invariant
+    writes_variable c.args.slots.now _ (subst IsFolding c.self.view_is c.self.invariant) _ c.in-Some.next _ (reverse c.pop.new.self.items) c.loop.cells.items c.loop.counter (ap reverse c.in-Some.ensures.items ∙ reverse-append c.pop.new.self.items (c.in-Some.next ∷ [])) c.loop.invariant
     c.in-Some-leader_of.slot _ (sym c.leader_of.ensures ∙ c.in-Some-leader_of.is) (c.in_ok-push.ensures.items ∙ ap (λ x. c.loop.cells.items ++ x ∷ []) c.cell_of.ensures)
 
 pub returns : goal.returns
@@ -48,4 +48,4 @@ returns c =
     subst (λ n. c.args.class < n) (sym c.self.invariant.sized.long) (subst (λ (f : Folded). c.args.class < length f.nodes) (sym c.self.view_is) less) in
     let len : c.index-end.result.now ≡ get_or c.self.inside.sizes.items c.args.class 0 =
     sym (get_or_from_slice_get c.self.inside.sizes.items c.args.class c.index-end.result.now 0 (slice_get_read c.self.inside.sizes.items _ c.args.class c.index-end.result.now refl inside c.index-end.ensures)) in
-    all_written c.args.slots.now _ (subst IsFolded c.self.view_is c.self.invariant) _ (reverse c.loop.left.items) c.loop.cells.items c.loop.counter (subst (λ (f : Folded). get_or f.sizes c.args.class 0 ≤ c.loop.counter) c.self.view_is (subst (λ n. n ≤ c.loop.counter) len c.loop-test.false)) c.loop.invariant
+    all_written c.args.slots.now _ (subst IsFolding c.self.view_is c.self.invariant) _ (reverse c.loop.left.items) c.loop.cells.items c.loop.counter (subst (λ (f : Folded). get_or f.sizes c.args.class 0 ≤ c.loop.counter) c.self.view_is (subst (λ n. n ≤ c.loop.counter) len c.loop-test.false)) c.loop.invariant

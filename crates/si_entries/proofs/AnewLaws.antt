@@ -22,7 +22,7 @@ use Rattle.si_flat.specs.Cells.{cells_of, cells_of_all}
 use Rattle.si_flat.specs.Numbered.{number_in, one_above, signed, place_in, numbered, all_numbered}
 use Rattle.si_flat.proofs.Walking.{numbered_sizes}
 use Rattle.si_flat.proofs.FirstPlaces.{place_one, firsts_among}
-use Rattle.si_entries.specs.Numbers.{same_number, entry_numbers, numbered_by, numbered_anew}
+use Rattle.si_entries.specs.Numbers.{same_number, entry_numbers, cell_by_place, numbered_anew}
 use Rattle.si_entries.specs.FlatWalks.{variable_in}
 use Rattle.si_entries.proofs.NumberLaws.{numbers-append}
 
@@ -101,7 +101,7 @@ module _ (pairs : Numbering) (positive : Bool) (ms : List ℕ) (names own : List
 
   mutual
     cells_anew : (t : Term) → IsSoundTerm t → AllByRecursion Goes (terms.variables t)
-        → map (numbered_by ms) (cells_of (numbered (signed positive (number_in pairs)) (variable_in names) t)) ≡ cells_of (numbered (number_in pairs) (variable_in own) t)
+        → map (cell_by_place ms) (cells_of (numbered (signed positive (number_in pairs)) (variable_in names) t)) ≡ cells_of (numbered (number_in pairs) (variable_in own) t)
     cells_anew (terms.var x) sound all = ap (λ k. cell.Entry k ∷ []) all.0
     cells_anew (terms.app s ts) sound all =
         let n : Symbol → ℕ = signed positive (number_in pairs) in
@@ -109,10 +109,10 @@ module _ (pairs : Numbering) (positive : Bool) (ms : List ℕ) (names own : List
         ∷ all_cells_anew ts sound.1 all i
 
     all_cells_anew : (ts : Terms) → AreSoundTerms ts → AllByRecursion Goes (terms.variables_of_all ts)
-        → map (numbered_by ms) (cells_of_all (all_numbered (signed positive (number_in pairs)) (variable_in names) ts)) ≡ cells_of_all (all_numbered (number_in pairs) (variable_in own) ts)
+        → map (cell_by_place ms) (cells_of_all (all_numbered (signed positive (number_in pairs)) (variable_in names) ts)) ≡ cells_of_all (all_numbered (number_in pairs) (variable_in own) ts)
     all_cells_anew terms.none sound all = refl
     all_cells_anew (terms.more t ts) sound all =
-        map-append (numbered_by ms) (cells_of (numbered (signed positive (number_in pairs)) (variable_in names) t)) (cells_of_all (all_numbered (signed positive (number_in pairs)) (variable_in names) ts))
+        map-append (cell_by_place ms) (cells_of (numbered (signed positive (number_in pairs)) (variable_in names) t)) (cells_of_all (all_numbered (signed positive (number_in pairs)) (variable_in names) ts))
         ∙ λ i. cells_anew t sound.0 (all_front Goes (terms.variables t) (terms.variables_of_all ts) all) i
         ++ all_cells_anew ts sound.1 (all_back Goes (terms.variables t) (terms.variables_of_all ts) all) i
 
@@ -120,5 +120,5 @@ pub part_anew : (pairs : Numbering) (positive : Bool) (names : List Bytes) (t : 
     → numbered_anew (cells_of (numbered (signed positive (number_in pairs)) (variable_in names) t)) ≡ cells_of (numbered (number_in pairs) (variable_in (firsts bytes_eq (terms.variables t))) t)
 part_anew pairs positive names t sound all =
     let part = cells_of (numbered (signed positive (number_in pairs)) (variable_in names) t) in
-    ap (λ l. map (numbered_by (firsts same_number l)) part) (numbers-cells (signed positive (number_in pairs)) names t)
+    ap (λ l. map (cell_by_place (firsts same_number l)) part) (numbers-cells (signed positive (number_in pairs)) names t)
     ∙ cells_anew pairs positive (firsts same_number (map (place_in bytes_eq names) (terms.variables t))) names (firsts bytes_eq (terms.variables t)) t sound (place_anew names (terms.variables t) all)

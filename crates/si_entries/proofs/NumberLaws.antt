@@ -18,7 +18,7 @@ use Rattle.si_flat.specs.Flattening.{FindsPlace, IsIndex}
 use Rattle.indexmap.specs.IndexSet.{insert_all}
 use Rattle.si_flat.specs.declared.Cell.{Cell}
 use Rattle.si_flat.specs.declared.Cell.TheVariants as cell
-use Rattle.si_entries.specs.Numbers.{same_number, AreAt, entry_numbers, numbered_by, IsNumberedIn, numbered_anew}
+use Rattle.si_entries.specs.Numbers.{same_number, AreAt, entry_numbers, cell_by_place, IsNumberedIn, numbered_anew}
 
 -- ---- a number is looked for
 -- the table leads to each number of the list
@@ -121,7 +121,7 @@ index_behind ns new n at lacked items is more =
 -- these cells were written, whatever is met later
 pub record AreWritten (seen : List Cell) (met : List ℕ) (written : List Cell) : Type 0 where
   pub met_are : met ≡ insert_all same_number [] (entry_numbers seen)
-  pub cells_are : (more : List ℕ) → written ≡ map (numbered_by (met ++ more)) seen
+  pub cells_are : (more : List ℕ) → written ≡ map (cell_by_place (met ++ more)) seen
 
 pub numbers-append : (cells others : List Cell) → entry_numbers (cells ++ others) ≡ entry_numbers cells ++ entry_numbers others
 numbers-append [] others = refl
@@ -154,15 +154,15 @@ written_more seen c numbered met now written new w grown is items =
       cells_are = λ more.
           items
           ∙ ap (λ l. l ++ numbered ∷ []) (w.cells_are (later.0 ++ more)
-          ∙ ap (λ l. map (numbered_by l) seen) (sym (append_assoc met later.0 more) ∙ ap (λ l. l ++ more) (sym later.1 ∙ sym grown)))
-          ∙ ap (λ d. map (numbered_by (now ++ more)) seen ++ d ∷ []) (is more)
-          ∙ sym (map-append (numbered_by (now ++ more)) seen (c ∷ []));
+          ∙ ap (λ l. map (cell_by_place l) seen) (sym (append_assoc met later.0 more) ∙ ap (λ l. l ++ more) (sym later.1 ∙ sym grown)))
+          ∙ ap (λ d. map (cell_by_place (now ++ more)) seen ++ d ∷ []) (is more)
+          ∙ sym (map-append (cell_by_place (now ++ more)) seen (c ∷ []));
     }
 
 written_all : (cells : List Cell) (met : List ℕ) (written : List Cell) → AreWritten cells met written → written ≡ numbered_anew cells
 written_all cells met written w =
     w.cells_are []
-    ∙ ap (λ l. map (numbered_by l) cells) (append-nil met ∙ w.met_are ∙ inserted-firsts same_number Decides-eqb (entry_numbers cells))
+    ∙ ap (λ l. map (cell_by_place l) cells) (append-nil met ∙ w.met_are ∙ inserted-firsts same_number Decides-eqb (entry_numbers cells))
 
 pub written_next : (cells : List Cell) (i : ℕ) (d numbered : Cell) (met now : List ℕ) (written new : List Cell)
     → i < length cells → AreWritten (take i cells) met written → now ≡ insert_all same_number met (entry_numbers (get_or cells i d ∷ [])) → IsNumberedIn now (get_or cells i d) numbered

@@ -20,15 +20,15 @@ entry_numbers (cell.Entry n ∷ cells) = n ∷ entry_numbers cells
 entry_numbers (c ∷ cells) = entry_numbers cells
 
 -- an entry's variable gets its place in the list as its number
-abbrev pub numbered_by : List ℕ → Cell → Cell
-numbered_by met (cell.Entry n) = cell.Entry (place_in same_number met n)
-numbered_by met c = c
+abbrev pub cell_by_place : List ℕ → Cell → Cell
+cell_by_place met (cell.Entry n) = cell.Entry (place_in same_number met n)
+cell_by_place met c = c
 
 -- the same, whatever is met later
 abbrev pub IsNumberedIn : List ℕ → Cell → Cell → Type 0
-IsNumberedIn met c numbered = (more : List ℕ) → numbered ≡ numbered_by (met ++ more) c
+IsNumberedIn met c numbered = (more : List ℕ) → numbered ≡ cell_by_place (met ++ more) c
 
 -- the same cells, but that an entry's variables are numbered from 0 in the order of their first
 -- occurrence
 abbrev pub numbered_anew : List Cell → List Cell
-numbered_anew cells = map (numbered_by (firsts same_number (entry_numbers cells))) cells
+numbered_anew cells = map (cell_by_place (firsts same_number (entry_numbers cells))) cells

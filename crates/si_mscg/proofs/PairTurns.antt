@@ -45,10 +45,10 @@ one_ends f g f' g' r e h = by (subst (Steps f g f' g') e h) where
 
 module _ (node new : List CellPair) (start : State) where
   -- ---- what differs at the root
-  abbrev pub Leaves : List CellPair → List CellPair → State → Type 0
-  Leaves first second s = OfSides node new (λ ss. HaveSides first second (λ rest. with_differing s rest ≡ with_differing start ss))
+  abbrev pub LeavesPairs : List CellPair → List CellPair → State → Type 0
+  LeavesPairs first second s = OfSides node new (λ ss. HaveSides first second (λ rest. with_differing s rest ≡ with_differing start ss))
 
-  pub leaves_all : (first second : List CellPair) → first ≡ node → second ≡ new → Leaves first second start
+  pub leaves_all : (first second : List CellPair) → first ≡ node → second ≡ new → LeavesPairs first second start
   leaves_all first second d e = λ ns ms h k. record {
     ns = ns;
     ms = ms;
@@ -57,14 +57,14 @@ module _ (node new : List CellPair) (start : State) where
     holds = refl;
   }
 
-  pub leaves_none : (first second : List CellPair) (s : State) → (first ≡ []) ⊎ (second ≡ []) → Leaves first second s → OfSides node new (λ ss. s ≡ with_differing start ss)
+  pub leaves_none : (first second : List CellPair) (s : State) → (first ≡ []) ⊎ (second ≡ []) → LeavesPairs first second s → OfSides node new (λ ss. s ≡ with_differing start ss)
   leaves_none first second s e l = λ ns ms h k. left_none s ∙ no_sides first second (λ rest. with_differing s rest ≡ with_differing start (sides ns ms)) e (l ns ms h k)
 
   -- ---- what agrees at the root
-  abbrev pub Shares : List CellPair → List CellPair → State → Type 0
-  Shares first second s = OfSides node new (λ ss. HaveSides first second (Goes s (with_agreeing start ss)))
+  abbrev pub SharesPairs : List CellPair → List CellPair → State → Type 0
+  SharesPairs first second s = OfSides node new (λ ss. HaveSides first second (Goes s (with_agreeing start ss)))
 
-  pub shares_all : (first second : List CellPair) → first ≡ node → second ≡ new → HaveSides node new (MayAgree start) → Shares first second start
+  pub shares_all : (first second : List CellPair) → first ≡ node → second ≡ new → HaveSides node new (MayAgree start) → SharesPairs first second start
   shares_all first second d e may = λ ns ms h k. let here = of_any node new (MayAgree start) may ns ms h k in record {
     ns = ns;
     ms = ms;
@@ -73,12 +73,12 @@ module _ (node new : List CellPair) (start : State) where
     holds = record { empty = here.empty; short = here.short; leads = refl };
   }
 
-  pub shares_none : (first second : List CellPair) (s : State) → (first ≡ []) ⊎ (second ≡ []) → Shares first second s → OfSides node new (λ ss. s ≡ with_agreeing start ss)
+  pub shares_none : (first second : List CellPair) (s : State) → (first ≡ []) ⊎ (second ≡ []) → SharesPairs first second s → OfSides node new (λ ss. s ≡ with_agreeing start ss)
   shares_none first second s e l = λ ns ms h k. let last = no_sides first second (Goes s (with_agreeing start (sides ns ms))) e (l ns ms h k) in shared_none s last.empty ∙ last.leads
 
   -- ---- one turn
   module _ (f g f' g' : List CellPair) (p q : CellPair) (first : BothFirst f g f' g' p q) (same : Bool) (tells : TellsHeads same p q) (s : State) where
-    pub left_skips : same ≡ true → Leaves f g s → Leaves f' g' s
+    pub left_skips : same ≡ true → LeavesPairs f g s → LeavesPairs f' g' s
     left_skips e l = λ ns ms h k.
         let one = first_sides f g p q f' g' (λ rest. with_differing s rest ≡ with_differing start (sides ns ms)) first.node first.new (l ns ms h k) in
         record {
@@ -89,7 +89,7 @@ module _ (node new : List CellPair) (start : State) where
           holds = left_same s (record { left = p.0; node = one.t; new = one.u }) (sides one.ns one.ms) (sym (tells one.t one.u one.stands one.new_stands) ∙ e) ∙ one.holds;
         }
 
-    pub left_goes_on : (after : State) → same ≡ false → after ≡ with_whole s p q → Leaves f g s → Leaves f' g' after
+    pub left_goes_on : (after : State) → same ≡ false → after ≡ with_whole s p q → LeavesPairs f g s → LeavesPairs f' g' after
     left_goes_on after e is l = λ ns ms h k.
         let one = first_sides f g p q f' g' (λ rest. with_differing s rest ≡ with_differing start (sides ns ms)) first.node first.new (l ns ms h k) in
         record {
@@ -100,12 +100,12 @@ module _ (node new : List CellPair) (start : State) where
           holds = ap (λ x. with_differing x (sides one.ns one.ms)) is ∙ left_one s p q one.t one.u (sides one.ns one.ms) one.stands one.new_stands (sym (tells one.t one.u one.stands one.new_stands) ∙ e) ∙ one.holds;
         }
 
-    pub left_may : same ≡ false → HaveSides node new (MayLeave start) → Leaves f g s → Unbound s p.0
+    pub left_may : same ≡ false → HaveSides node new (MayLeave start) → LeavesPairs f g s → Unbound s p.0
     left_may e may l =
         let one = first_sides f g p q f' g' (λ rest. with_differing s rest ≡ with_differing start (sides may.ns may.ms)) first.node first.new (l may.ns may.ms may.node_stand may.new_stand) in
         left_unbound s (with_differing start (sides may.ns may.ms)) (record { left = p.0; node = one.t; new = one.u }) (sides one.ns one.ms) one.holds (sym (tells one.t one.u one.stands one.new_stands) ∙ e) may.holds
 
-    pub shared_skips : same ≡ false → Shares f g s → Shares f' g' s
+    pub shared_skips : same ≡ false → SharesPairs f g s → SharesPairs f' g' s
     shared_skips e l = λ ns ms h k.
         let one = first_sides f g p q f' g' (Goes s (with_agreeing start (sides ns ms))) first.node first.new (l ns ms h k) in
         record {
@@ -116,7 +116,7 @@ module _ (node new : List CellPair) (start : State) where
           holds = goes_other s (with_agreeing start (sides ns ms)) (record { left = p.0; node = one.t; new = one.u }) (sides one.ns one.ms) (sym (tells one.t one.u one.stands one.new_stands) ∙ e) one.holds;
         }
 
-    pub shared_goes_on : (after : State) → same ≡ true → SharesPair s p q after → Shares f g s → Shares f' g' after
+    pub shared_goes_on : (after : State) → same ≡ true → SharesPair s p q after → SharesPairs f g s → SharesPairs f' g' after
     shared_goes_on after e is l = λ ns ms h k.
         let one = first_sides f g p q f' g' (Goes s (with_agreeing start (sides ns ms))) first.node first.new (l ns ms h k) in
         record {
@@ -127,7 +127,7 @@ module _ (node new : List CellPair) (start : State) where
           holds = subst (λ x. Goes x (with_agreeing start (sides ns ms)) (sides one.ns one.ms)) (sym (is one.t one.u one.stands one.new_stands)) (goes_on s (with_agreeing start (sides ns ms)) (record { left = p.0; node = one.t; new = one.u }) (sides one.ns one.ms) (sym (tells one.t one.u one.stands one.new_stands) ∙ e) one.holds);
         }
 
-    pub shared_may : same ≡ true → HaveSides node new (MayAgree start) → Shares f g s → MaySharePair s p q
+    pub shared_may : same ≡ true → HaveSides node new (MayAgree start) → SharesPairs f g s → MaySharePair s p q
     shared_may e may l =
         let one = first_sides f g p q f' g' (Goes s (with_agreeing start (sides may.ns may.ms))) first.node first.new (l may.ns may.ms may.node_stand may.new_stand) in
         may_share_pair s (with_agreeing start (sides may.ns may.ms)) p q one.t one.u (sides one.ns one.ms) one.stands one.new_stands (sym (tells one.t one.u one.stands one.new_stands) ∙ e) may.holds.distinct may.holds.may_end one.holds

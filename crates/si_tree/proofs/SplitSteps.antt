@@ -355,8 +355,8 @@ module _ (old new : Inside) (key parent first : ℕ) (split : Split) (others : L
         (not_child k (node_of x) m cs apart (node_read old.nodes.slots k x got) e)
         (known_told (tree_of old) x.content m cs e (s.kept.heads k x got)))
 
-  pub fork_heads : HeadsAt (tree_of new) first key s.head → HeadsAt (tree_of new) first lk s.new_head → KnowsHeads (tree_of new) s.put.forked.content
-  fork_heads one two =
+  pub fork_knows_heads : HeadsAt (tree_of new) first key s.head → HeadsAt (tree_of new) first lk s.new_head → KnowsHeads (tree_of new) s.put.forked.content
+  fork_knows_heads one two =
       known_from (tree_of new) s.put.forked.content first (key ∷ lk ∷ []) forked_content
       (subst (λ hs. AreHeadsOf (tree_of new) first hs (key ∷ lk ∷ [])) (sym (s.put.gains.heads ∙ ap (λ hs. hs ++ s.new_head ∷ []) s.is_fork.heads)) (one, (two, tt)))
 
@@ -412,7 +412,7 @@ module _ (old new : Inside) (key parent first : ℕ) (split : Split) (others : L
   split_kept one two leaves unmerged = record {
     legal = (splits_node (tree_of old) (tree_of new) key (parts_of split) (bindings_of others) p f lk s.kept.legal s.may splits).0;
     whole = λ k x got. wholes k x got (which k);
-    heads = λ k x got. all_heads k x (fork_heads one two) got (which k);
+    heads = λ k x got. all_heads k x (fork_knows_heads one two) got (which k);
     leaves = omega (arith, leaves, s.kept.leaves, s.put.counts leaves_of, ap leaves_of s.put.relinks.was, ap leaves_of s.put.relinks.is, ap leaves_of s.is_leaf.content, ap leaves_of forked_content);
     unmerged = omega (arith, unmerged, s.kept.unmerged, s.put.counts unmerged_of, ap unmerged_of s.put.relinks.was, ap unmerged_of s.put.relinks.is, ap unmerged_of s.is_leaf.content, ap unmerged_of forked_content);
   }

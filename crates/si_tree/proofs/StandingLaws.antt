@@ -8,7 +8,7 @@ use Rattle.si_defs.specs.Substitutions.{IsAmong}
 use Rattle.si_legal.specs.declared.Posting.{Posting}
 use Rattle.si_tree.specs.declared.postings.Slot.{Slot}
 use Rattle.si_tree.specs.Changes.{IsWithout}
-use Rattle.si_tree.specs.Slots.{filled, posting_in, put_if, stands, standing, StandsAt}
+use Rattle.si_tree.specs.Slots.{filled, posting_in, put_if, stands, standing, HasPostingAt}
 
 put_before : (b : Bool) (p : Posting) (ps qs : List Posting) → put_if b p (ps ++ qs) ≡ put_if b p ps ++ qs
 put_before true p ps qs = refl
@@ -34,7 +34,7 @@ pub pushed_length : (ss : List Slot) (p : Posting) (new : List Slot) → new ≡
 pushed_length ss p new e there = ap length (standing_pushed ss p new e there) ∙ length-append (standing ss) (p ∷ [])
 
 -- the posting that stood there goes
-pub emptied : (ss : List Slot) (n : ℕ) (p : Posting) (s : Slot) → StandsAt ss n p → stands s ≡ false → IsWithout (standing ss) p (standing (slice_set ss n s))
+pub emptied : (ss : List Slot) (n : ℕ) (p : Posting) (s : Slot) → HasPostingAt ss n p → stands s ≡ false → IsWithout (standing ss) p (standing (slice_set ss n s))
 emptied [] n p s there f = absurd (by there.0) where
   by : slice_get [] n ≡ Some (filled p) → ⊥
   by g = cc
@@ -99,7 +99,7 @@ not_behind true q p xs ys before later (inl same) = before (inl same)
 not_behind true q p xs ys before later (inr among) = later (λ x. before (inr x)) among
 not_behind false q p xs ys before later among = later before among
 
-not_after : (ss : List Slot) (n : ℕ) (p : Posting) → (IsAmong (standing (take n ss)) p → ⊥) → (StandsAt ss n p → ⊥) → IsAmong (standing (take (suc n) ss)) p → ⊥
+not_after : (ss : List Slot) (n : ℕ) (p : Posting) → (IsAmong (standing (take n ss)) p → ⊥) → (HasPostingAt ss n p → ⊥) → IsAmong (standing (take (suc n) ss)) p → ⊥
 not_after [] zero p before here among = absurd among
 not_after [] (suc n) p before here among = absurd among
 not_after (s ∷ ss) zero p before here among = let there = stands_there (stands s) s p refl among in here (ap Some there.0, there.1)
@@ -107,7 +107,7 @@ not_after (s ∷ ss) (suc n) p before here among =
     not_behind (stands s) (posting_in s) p (standing (take n ss)) (standing (take (suc n) ss)) before (λ earlier. not_after ss n p earlier here) among
 
 -- not among the first ones, and not in the next slot
-pub not_yet : (ss : List Slot) (n : ℕ) (p : Posting) → (IsAmong (standing (take n ss)) p → ⊥) → (StandsAt ss n p → ⊥) → IsAmong (standing (take (n + 1) ss)) p → ⊥
+pub not_yet : (ss : List Slot) (n : ℕ) (p : Posting) → (IsAmong (standing (take n ss)) p → ⊥) → (HasPostingAt ss n p → ⊥) → IsAmong (standing (take (n + 1) ss)) p → ⊥
 not_yet ss n p before here among =
     let on : n + 1 ≡ suc n = omega arith in
     not_after ss n p before here (subst (λ m. IsAmong (standing (take m ss)) p) on among)

@@ -167,8 +167,8 @@ module _ (t : Inside) (kept : IsKept t) (numbers : List ℕ) (v : Visit) (n : Tr
   split_opened : (split : ℕ) → IsOpenBelow ((v.node, node_of n) ∷ s.above) split → IsAmong (opened ((v.node, node_of n) ∷ s.above)) split
   split_opened split a = open_opened (tree_of t) (legal_nodes (tree_of t) kept.legal) (Some v.node) ((v.node, node_of n) ∷ s.above) there split a
 
-  pub split_known : HasNotedSplit (content_of n.content) (noted numbers v.opened (rights_in n.bindings))
-  split_known = by (content_of n.content) content where
+  pub split_noted : HasNotedSplit (content_of n.content) (noted numbers v.opened (rights_in n.bindings))
+  split_noted = by (content_of n.content) content where
     by : (c : Content) → IsLegalContent (tree_of t) v.node ((v.node, node_of n) ∷ s.above) c → HasNotedSplit c (noted numbers v.opened (rights_in n.bindings))
     by (inner split children) l = subst (λ m. split < m) (sym then_long) (low split (split_opened split l.0))
     by (leaf ps) l = tt

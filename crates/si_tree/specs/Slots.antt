@@ -26,5 +26,5 @@ standing [] = []
 standing (s ∷ ss) = put_if (stands s) (posting_in s) (standing ss)
 
 -- the posting stands in the slot at this place
-abbrev pub StandsAt : List Slot → ℕ → Posting → Type 0
-StandsAt ss place p = (slice_get ss place ≡ Some (filled p)) × (stands (filled p) ≡ true)
+abbrev pub HasPostingAt : List Slot → ℕ → Posting → Type 0
+HasPostingAt ss place p = (slice_get ss place ≡ Some (filled p)) × (stands (filled p) ≡ true)

@@ -30,13 +30,13 @@ impl Heads {
         Heads::Few(Vec::new(alloc))
     }
 
-    /// These two heads, and room for another.
-    pub(crate) fn few(alloc: Global, two: &[Head]) -> Result<Heads, AllocError>
-        ensures heads { IfOk result (λ heads. heads_in heads ≡ two.now) }
+    /// These few heads, and room for another.
+    pub(crate) fn few(alloc: Global, few: &[Head]) -> Result<Heads, AllocError>
+        ensures heads { IfOk result (λ heads. heads_in heads ≡ few.now) }
         ensures room { IfOk result HasRoomForHead }
     {
         let mut heads = Vec::with_capacity(alloc, FIRST_ROOM)?;
-        heads.extend_from_slice(two)?;
+        heads.extend_from_slice(few)?;
         heads.reserve(1)?;
         Ok(Heads::Few(heads))
     }

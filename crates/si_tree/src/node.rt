@@ -90,9 +90,9 @@ pub(crate) struct TreeNode {
 /// What a node has below it: an inner node its children, a leaf its postings.
 #[derive(Drop)]
 pub(crate) enum Content {
-    /// The children of an inner node that never had more than two.
+    /// The children of an inner node, but the root, that never had more than two.
     Fork(Box<Fork>),
-    /// The children of an inner node, once there were three.
+    /// The children of the root, or of an inner node that had three once.
     Inner(Box<Branches>),
     /// A leaf's first posting, if it still stands.
     One(Slot),

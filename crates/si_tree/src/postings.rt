@@ -3,7 +3,7 @@ ghost use Rattle.std.specs.Prelude.{◌≡◌, ◌<◌, ◌≤◌, ◌^◌, ◌�
 ghost use Rattle.si_defs.specs.Substitutions.{IsAmong};
 ghost use Rattle.si_legal.specs.declared.Posting as posting;
 ghost use Rattle.si_tree.specs.Changes.{IsWithout};
-ghost use Rattle.si_tree.specs.Slots.{filled, posting_in, standing, stands, StandsAt};
+ghost use Rattle.si_tree.specs.Slots.{filled, posting_in, standing, stands, HasPostingAt};
 
 use si_legal::Posting;
 use std::alloc::{AllocError, Global};
@@ -283,7 +283,7 @@ fn make_room(slots: &mut Vec<Slot>) -> Result<(), AllocError>
 // Empties a slot.
 fn empty(slots: &mut Vec<Slot>, place: usize)
     requires { place < length slots.old.items }
-    ensures { (p : posting.Posting) → StandsAt slots.old.items place p
+    ensures { (p : posting.Posting) → HasPostingAt slots.old.items place p
         → IsWithout (standing slots.old.items) p (standing slots.new.items) }
 {
     slots[place].entry = slots[place].entry.saturating_add(GONE);
@@ -293,7 +293,7 @@ fn empty(slots: &mut Vec<Slot>, place: usize)
 // goes first. So it is sought at both ends, then by halves, and only then at each place.
 fn place_of(slots: &[Slot], first: usize, last: usize, posting: Posting) -> usize
     requires { IsAmong (standing slots.now) posting }
-    ensures { StandsAt slots.now result posting }
+    ensures { HasPostingAt slots.now result posting }
 {
     if is_at(slots, first, posting) {
         return first;
@@ -310,8 +310,8 @@ fn place_of(slots: &[Slot], first: usize, last: usize, posting: Posting) -> usiz
 
 // Whether the posting stands at this place.
 fn is_at(slots: &[Slot], place: usize, posting: Posting) -> bool
-    ensures yes { IsTrue result → StandsAt slots.now place posting }
-    ensures no { IsFalse result → StandsAt slots.now place posting → ⊥ }
+    ensures yes { IsTrue result → HasPostingAt slots.now place posting }
+    ensures no { IsFalse result → HasPostingAt slots.now place posting → ⊥ }
 {
     let Some(slot) = slots.get(place) else {
         return false;
@@ -339,7 +339,7 @@ fn place_if_rising(slots: &[Slot], posting: Posting) -> usize {
 // The place of a posting, sought from both ends.
 fn place_from_ends(slots: &[Slot], posting: Posting) -> usize
     requires { IsAmong (standing slots.now) posting }
-    ensures { StandsAt slots.now result posting }
+    ensures { HasPostingAt slots.now result posting }
 {
     for place in 0..slots.len() {
         if is_at(slots, place, posting) {

@@ -8,7 +8,7 @@ use Rattle.si_tree.specs.Renumbers.{HasNotedSplit, split_in, visits}
 use Rattle.si_legal.specs.Legal.{IsLegal}
 use Rattle.si_tree.specs.KeptNodes.{content_of}
 use Rattle.si_tree.specs.Reading.{children_of}
-use Rattle.si_tree.proofs.WalkLaws.{known_rights, opened_fits, known_lefts, known_rights_then, distinct_then, split_known}
+use Rattle.si_tree.proofs.WalkLaws.{known_rights, opened_fits, known_lefts, known_rights_then, distinct_then, split_noted}
 use Rattle.si_tree.proofs.WalkSteps.{walk_at, walk_starts, walk_ends, last_stood, is_taken, fewer_done, turned_to, one_longer}
 use Rattle.si_tree.proofs.tree.Tree.renumbering.Goals as goal
 
@@ -68,7 +68,7 @@ split_in-requires c =
     let h = walk_at _ _ _ _ _ _ _ _ _ c.self.view_is c.in-Some.ensures.items c.visit.view_is c.loop-visit.invariant in
     let s = is_taken c.self.inside c.self.invariant _ _ _ _ _ h c.index-node.result.now c.index-node.ensures in
     subst (HasNotedSplit (content_of c.index-node.result.now.content)) (sym (c.as_slice-in-Some.ensures.value ∙ c.note_rights-opened.ensures.noted))
-    (split_known c.self.inside c.self.invariant _ _ c.index-node.result.now s)
+    (split_noted c.self.inside c.self.invariant _ _ c.index-node.result.now s)
 
 pub loop-visit-smaller : goal.loop-visit-smaller
 loop-visit-smaller c =

@@ -1,4 +1,4 @@
--- What a writer does of whom the cells of a query's term are asked one after the other.
+-- What a writer does that is given a query's term piece by piece.
 use Rattle.std.specs.Prelude.{◌≡◌, ℕ, ◌-◌, Bool, cond, [], ◌∷◌, ◌++◌, length, slice_set}
 use Rattle.si_defs.specs.Symbols.{Symbol, Numbering, IsNumbering}
 use Rattle.si_defs.specs.Substitutions.{IsAmong}
@@ -7,7 +7,7 @@ use Rattle.si_flat.specs.declared.Owner.TheVariants.{Query}
 use Rattle.si_flat.specs.Numbered.{one_above}
 use Rattle.si_flat.specs.Flattening.{WalkState, WalkPiece, entry_scheme, Flattens}
 
--- It was met and written. Its cells are the same by itself and in every literal.
+-- The piece was met and written, in the same cells alone and in every literal.
 abbrev pub WritesPiece : Numbering → WalkState → WalkState → WalkPiece → Type 0
 WritesPiece pairs old new piece =
     (positive : Bool) → Flattens pairs (entry_scheme Query positive) old new piece

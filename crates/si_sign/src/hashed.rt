@@ -30,8 +30,8 @@ impl HashedKeys {
         Some(*key as usize)
     }
 
-    /// Has the text's hash lead to the key, and answers true, where it leads to none yet. At an
-    /// error the map is as before.
+    /// Where the text's hash leads to no key yet, it leads to this one, and the answer is true. At
+    /// an error the map is as before.
     pub fn insert(&mut self, text: &[u8], key: usize) -> Result<bool, AllocError>
         ensures ok { IfOk result (λ free. LeadsIfFree free text.now key (hashed_key self.old)
             (hashed_key self.new)) }
@@ -49,7 +49,7 @@ impl HashedKeys {
         Ok(true)
     }
 
-    /// Where the text's hash leads to the key, it leads to none afterwards.
+    /// The text's hash doesn't lead to this key afterwards. Where it led to another, it still does.
     pub fn remove(&mut self, text: &[u8], key: usize)
         ensures { LeadsNoMore text.now key (hashed_key self.old) (hashed_key self.new) }
     {

@@ -14,8 +14,8 @@ use si_term::Sym;
 use slab::Slab;
 use std::alloc::{AllocError, Global};
 
-/// A map from kinds and texts of symbols to their keys in a slab. Of the texts with one hash only
-/// the first is found by the hash, and is no copy: it stands in the slab alone.
+/// A map from kinds and texts of symbols to their keys in a slab. Of the texts with one hash at
+/// most one is found by the hash; it has no copy here, and stands in the slab alone.
 #[derive(Drop)]
 pub struct SymbolKeys {
     hashed: HashedKeys,
@@ -48,8 +48,7 @@ impl SymbolKeys {
         self.others.get(kind, text)
     }
 
-    /// Has the kind and text of a symbol that has no key lead to this one. At an error the map is
-    /// as before.
+    /// Gives this key to a kind and text that have none. At an error the map is as before.
     pub fn insert(&mut self, alloc: Global, symbol: &Sym, key: usize) -> Result<(), AllocError>
         ensures ok { OnOk result (LeadsTo symbol.now.kind symbol.now.text key self.old self.new) }
         ensures err { OnErr result (StayLed self.old self.new) }
@@ -61,7 +60,7 @@ impl SymbolKeys {
         self.others.insert(symbol.kind, text, key)
     }
 
-    /// Has the kind and text of a symbol lead to its key no more. It takes no memory.
+    /// Takes from a kind and text their key. It takes no memory.
     pub fn remove(&mut self, symbol: &Sym, key: usize)
         ensures { LeadsAway symbol.now.kind symbol.now.text key self.old self.new }
     {

@@ -10,7 +10,7 @@ use Rattle.si_state.specs.Answers.{Stands}
 use Rattle.si_form.specs.declared.solution.Binding.{Binding}
 use Rattle.si_changes.proofs.StoredLaws.{one_leaf}
 use Rattle.si_flat.specs.Cells.{Term}
-use Rattle.si_index.specs.Leaves.{HasNode, HasMade, IsUnmade, AreUnmade, StayMade}
+use Rattle.si_index.specs.Leaves.{HasLeafAt, HasMade, IsUnmade, AreUnmade, StayMade}
 use Rattle.si_index.specs.Searching.{numbers_of, pattern_in, term_in, tree_in, IsReady, IsKnownEntry, SolvesTerm, IsLeafOf, IsOfLeaf, AreMade, HasList}
 use Rattle.si_index.specs.declared.search.Search.{Search}
 use Rattle.si_index.specs.declared.wanted.Leaf.{Leaf}
@@ -23,7 +23,7 @@ stays_itself leaves = record { nodes = λ n node h. h; lists = λ n list h. h }
 pub of_leaf_stays : (s : Search) (old new : List Leaf) (n : ℕ) (e : Entry) → StayMade old new → IsOfLeaf s old n e → IsOfLeaf s new n e
 of_leaf_stays s old new n e stay h = (h.0, stay.nodes n h.0 h.1, h.2)
 
-one_made : (leaves : List Leaf) (n node other : ℕ) → HasNode leaves n node → HasNode leaves n other → node ≡ other
+one_made : (leaves : List Leaf) (n node other : ℕ) → HasLeafAt leaves n node → HasLeafAt leaves n other → node ≡ other
 one_made leaves n node other h g = sym h.2 ∙ ap (λ (l : Leaf). l.node) (same_Some h.0 g.0 (sym h.1 ∙ g.1)) ∙ g.2
 
 -- ---- a leaf comes
@@ -53,7 +53,7 @@ module _ (leaves : List Leaf) (at : ℕ) (l made : Leaf) (here : slice_get leave
 
   pub made_stays : StayMade leaves (set leaves at made)
   made_stays = record {
-    nodes = λ n node h. elim (eqb_tells n at) as (λ _. HasNode (set leaves at made) n node) [
+    nodes = λ n node h. elim (eqb_tells n at) as (λ _. HasLeafAt (set leaves at made) n node) [
       | inl is ↦
           let own : l ≡ h.0 = same_Some l h.0 (sym here ∙ ap (slice_get leaves) (sym is.1) ∙ h.1) in
           (made, ap (slice_get (set leaves at made)) is.1 ∙ at_made, same ∙ ap (λ (k : Leaf). k.node) own ∙ h.2)
@@ -73,12 +73,12 @@ module _ (leaves : List Leaf) (at : ℕ) (l made : Leaf) (here : slice_get leave
   -- by an entry of the leaf
   pub are_made : (s : Search) (e : Entry) (list : List Binding) → made.list ≡ Some list → IsOfLeaf s leaves at e → SolvesTerm s (term_in s e) list → AreMade s leaves → AreMade s (set leaves at made)
   are_made s e list is of_leaf solves all n other h =
-      elim (eqb_tells n at) as (λ _. (node : ℕ) × HasNode (set leaves at made) n node × ((t : Term) × IsLeafOf (tree_in s) node t × SolvesTerm s t other)) [
+      elim (eqb_tells n at) as (λ _. (node : ℕ) × HasLeafAt (set leaves at made) n node × ((t : Term) × IsLeafOf (tree_in s) node t × SolvesTerm s t other)) [
         | inl here_too ↦
             let own : made ≡ h.0 = same_Some made h.0 (sym at_made ∙ ap (slice_get (set leaves at made)) (sym here_too.1) ∙ h.1) in
             let lists : list ≡ other = same_Some list other (sym is ∙ ap (λ (k : Leaf). k.list) own ∙ h.2) in
             let moved = of_leaf_stays s leaves (set leaves at made) at e made_stays of_leaf in
-            (moved.0, subst (λ m. HasNode (set leaves at made) m moved.0) (sym here_too.1) moved.1, (term_in s e, moved.2, subst (SolvesTerm s (term_in s e)) lists solves))
+            (moved.0, subst (λ m. HasLeafAt (set leaves at made) m moved.0) (sym here_too.1) moved.1, (term_in s e, moved.2, subst (SolvesTerm s (term_in s e)) lists solves))
         | inr apart ↦
             let before = all n other (h.0, sym (set_other leaves at n made apart.1) ∙ h.1, h.2) in
             (before.0, made_stays.nodes n before.0 before.1, before.2)

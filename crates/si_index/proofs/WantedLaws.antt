@@ -34,9 +34,9 @@ use Rattle.si_held.specs.TwoTrees.{tree_for}
 use Rattle.si_held.proofs.Holding.{held}
 use Rattle.si_held.proofs.KeyLaws.{one_entry as kept_once}
 use Rattle.si_index.specs.Kept.{Kept, AreKeyed, TreesHold, paired, kept_clauses}
-use Rattle.si_index.specs.Leaves.{HasNode, AreUnmade, StayMade}
+use Rattle.si_index.specs.Leaves.{HasLeafAt, AreUnmade, StayMade}
 use Rattle.si_index.specs.Engines.{Answering, asks_literals, AreAsked, AnswersStanding, IsOfStanding, posted_from, posted_entries, AreAnswered}
-use Rattle.si_index.specs.Gathering.{IsLower, IsBefore, Rise, StandsFor, IsStored, IsInLeaf, AreInOrder, IsHitAt, IsStandingAt}
+use Rattle.si_index.specs.Gathering.{IsLower, IsBefore, Rise, IsPostingAt, StoresPosting, IsInLeaf, AreInOrder, IsHitAt, IsStandingAt}
 use Rattle.si_index.specs.Slots.{Slots, HasSlots, IsIn}
 use Rattle.si_index.specs.Sorting.{AreSorted}
 use Rattle.si_index.specs.Searching.{numbers_of, pattern_in, tree_in, term_in, AreAlike, IsOfLeaf}
@@ -70,7 +70,7 @@ pub record IsPlaced (slots : Slots) (tree : Tree Term) (leaves : List Leaf) (p :
   pub key : IsIn slots w.slot p.clause
   pub number : w.entry ≡ p.entry
   pub node : ℕ
-  pub has_node : HasNode leaves w.leaf node
+  pub has_node : HasLeafAt leaves w.leaf node
   pub term : Term
   pub stands : StandsIn tree node term p
 
@@ -126,7 +126,7 @@ unfolding IsDistinct
 distinct_places slots [] distinct = tt
 distinct_places slots (w ∷ ws) distinct = IsDistinct-cons is_same w ws (differ_from slots w ws distinct.0) (distinct_places slots ws distinct.1)
 
-each_placed : (slots : Slots) (tree : Tree Term) (leaves : List Leaf) (ws : List Wanted) → PlacesRise slots → AllByRecursion (IsInLeaf slots tree leaves) ws → AllZip (StandsFor slots) (map (posting_at slots) ws) ws
+each_placed : (slots : Slots) (tree : Tree Term) (leaves : List Leaf) (ws : List Wanted) → PlacesRise slots → AllByRecursion (IsInLeaf slots tree leaves) ws → AllZip (IsPostingAt slots) (map (posting_at slots) ws) ws
 each_placed slots tree leaves [] rise in_leaves = tt
 each_placed slots tree leaves (w ∷ ws) rise in_leaves =
     let key = key_is slots w.slot in_leaves.0.key in_leaves.0.has_key.0 rise in_leaves.0.has_key.1 in
@@ -164,20 +164,20 @@ same_kind (literal_pattern l) (term_entry u) alike = absurd alike
 same_kind (term_pattern t) (literal_entry k) alike = absurd alike
 
 -- the tree that is asked stores it
-stored_standing : (k : Kept) (relation : Relation) (p : Pattern) (q : Posting) → TreesHold k → IsOfStanding k relation p q → IsStored (tree_for (asks_literals p) k.trees) q
+stored_standing : (k : Kept) (relation : Relation) (p : Pattern) (q : Posting) → TreesHold k → IsOfStanding k relation p q → StoresPosting (tree_for (asks_literals p) k.trees) q
 stored_standing k relation p q hold s = (
   numbered_entry k.numbers entry s.0,
   (held k.numbers (kept_clauses k) k.trees hold (asks_literals p) (numbered_entry k.numbers entry s.0) q).1 (s.0, s.1, same_kind p s.0 (alike_standing relation p s.0 s.2), refl),
 )
 
 pub postings_stored : (k : Kept) (relation : Relation) (p : Pattern) (postings : List Posting) → TreesHold k
-    → ((q : Posting) → IsAmong postings q → IsOfStanding k relation p q) → AllByRecursion (IsStored (tree_for (asks_literals p) k.trees)) postings
-postings_stored k relation p postings hold standing = all_from (IsStored (tree_for (asks_literals p) k.trees)) postings (λ q a. stored_standing k relation p q hold (standing q a))
+    → ((q : Posting) → IsAmong postings q → IsOfStanding k relation p q) → AllByRecursion (StoresPosting (tree_for (asks_literals p) k.trees)) postings
+postings_stored k relation p postings hold standing = all_from (StoresPosting (tree_for (asks_literals p) k.trees)) postings (λ q a. stored_standing k relation p q hold (standing q a))
 
 -- of a search whose numbers are those of its index, and whose trees hold the clauses
 module _ (s : Search) (leaves : List Leaf) (slots : HasSlots s.index.now s.slots) (keyed : AreKeyed s.index.now) (hold : TreesHold s.index.now) (numbers : numbers_of s ≡ s.index.now.numbers) where
   -- the leaf of a posting has the term of its entry
-  leaf_term : (q : Posting) (w : Wanted) (e : Entry) → StandsFor s.slots q w → IsInLeaf s.slots (tree_in s) leaves w → IsPostingOf (kept_clauses s.index.now) q e → IsOfLeaf s leaves w.leaf e
+  leaf_term : (q : Posting) (w : Wanted) (e : Entry) → IsPostingAt s.slots q w → IsInLeaf s.slots (tree_in s) leaves w → IsPostingOf (kept_clauses s.index.now) q e → IsOfLeaf s leaves w.leaf e
   leaf_term q w e there h own =
       let k = s.index.now in
       let key = one_key s.slots w.slot h.key q.clause slots.rise h.has_key there.0 in
@@ -188,7 +188,7 @@ module _ (s : Search) (leaves : List Leaf) (slots : HasSlots s.index.now s.slots
       (h.node, h.has_node, (stands.0, subst (λ t. IsLeaf (tree_in s) h.node t stands.0) term stands.1))
 
   -- the entry of a posting of an entry in the relation
-  standing_at : (q : Posting) (w : Wanted) → StandsFor s.slots q w → IsInLeaf s.slots (tree_in s) leaves w → IsOfStanding s.index.now s.relation (pattern_in s) q → IsStandingAt s leaves w
+  standing_at : (q : Posting) (w : Wanted) → IsPostingAt s.slots q w → IsInLeaf s.slots (tree_in s) leaves w → IsOfStanding s.index.now s.relation (pattern_in s) q → IsStandingAt s leaves w
   standing_at q w there in_its standing =
       let k = s.index.now in
       let own = standing.1 in
@@ -208,7 +208,7 @@ module _ (s : Search) (leaves : List Leaf) (slots : HasSlots s.index.now s.slots
         of_leaf = subst (IsOfLeaf s leaves w.leaf) (sym own.entry_is) (leaf_term q w standing.0 there in_its own);
       }
 
-  all_standing : (qs : List Posting) (ws : List Wanted) → AllZip (StandsFor s.slots) qs ws → AllByRecursion (IsInLeaf s.slots (tree_in s) leaves) ws
+  all_standing : (qs : List Posting) (ws : List Wanted) → AllZip (IsPostingAt s.slots) qs ws → AllByRecursion (IsInLeaf s.slots (tree_in s) leaves) ws
       → ((q : Posting) → IsAmong qs q → IsOfStanding s.index.now s.relation (pattern_in s) q) → AllByRecursion (IsStandingAt s leaves) ws
   all_standing [] [] each in_leaves standing = tt
   all_standing [] (w ∷ ws) each in_leaves standing = absurd each
@@ -379,7 +379,7 @@ found (q ∷ qs) [] = []
 found (q ∷ qs) (hit ∷ hits) = (q, hit) ∷ found qs hits
 
 module _ (slots : Slots) where
-  found_hits : (qs : List Posting) (ws : List Wanted) (hits : List (ℕ × Placed)) → AllZip (StandsFor slots) qs ws → AllZip (IsHitAt slots) ws hits → map (λ x. x.1) (found qs hits) ≡ hits
+  found_hits : (qs : List Posting) (ws : List Wanted) (hits : List (ℕ × Placed)) → AllZip (IsPostingAt slots) qs ws → AllZip (IsHitAt slots) ws hits → map (λ x. x.1) (found qs hits) ≡ hits
   found_hits [] [] [] each are = refl
   found_hits [] [] (hit ∷ hits) each are = absurd are
   found_hits [] (w ∷ ws) hits each are = absurd each
@@ -391,10 +391,10 @@ module _ (slots : Slots) where
     at : Wanted
     among : IsAmong ws at
     asked : IsAmong qs x.0
-    there : StandsFor slots x.0 at
+    there : IsPostingAt slots x.0 at
     hit : IsHitAt slots at x.1
 
-  of_found : (qs : List Posting) (ws : List Wanted) (hits : List (ℕ × Placed)) (x : Posted) → AllZip (StandsFor slots) qs ws → AllZip (IsHitAt slots) ws hits → IsAmong (found qs hits) x → IsFoundAt qs ws x
+  of_found : (qs : List Posting) (ws : List Wanted) (hits : List (ℕ × Placed)) (x : Posted) → AllZip (IsPostingAt slots) qs ws → AllZip (IsHitAt slots) ws hits → IsAmong (found qs hits) x → IsFoundAt qs ws x
   of_found [] ws hits x each are a = absurd a
   of_found (q ∷ qs) ws [] x each are a = absurd a
   of_found (q ∷ qs) [] (hit ∷ hits) x each are a = absurd each
@@ -404,7 +404,7 @@ module _ (slots : Slots) where
       let h = of_found qs ws hits x each.1 are.1 a in
       record { at = h.at; among = inr h.among; asked = inr h.asked; there = h.there; hit = h.hit }
 
-  with_found : (qs : List Posting) (ws : List Wanted) (hits : List (ℕ × Placed)) (q : Posting) → AllZip (StandsFor slots) qs ws → AllZip (IsHitAt slots) ws hits → IsAmong qs q → (hit : ℕ × Placed) × IsAmong (found qs hits) (q, hit)
+  with_found : (qs : List Posting) (ws : List Wanted) (hits : List (ℕ × Placed)) (q : Posting) → AllZip (IsPostingAt slots) qs ws → AllZip (IsHitAt slots) ws hits → IsAmong qs q → (hit : ℕ × Placed) × IsAmong (found qs hits) (q, hit)
   with_found [] ws hits q each are a = absurd a
   with_found (p ∷ qs) [] hits q each are a = absurd each
   with_found (p ∷ qs) (w ∷ ws) [] q each are a = absurd are
@@ -416,7 +416,7 @@ module _ (slots : Slots) where
   hits_rise w v a b m n rise h g e f (inl less) = inl (lower_position slots a.0 b.0 _ _ rise h.there g.there less)
   hits_rise w v a b m n rise h g e f (inr both) = inr (same_position slots a.0 b.0 _ _ rise h.there g.there both.0, omega (arith, both.1, e, f))
 
-  found_follow : (qs : List Posting) (ws : List Wanted) (hits : List (ℕ × Placed)) → PlacesRise slots → AllZip (StandsFor slots) qs ws → AllZip (IsHitAt slots) ws hits → Rise ws → Follow (found qs hits)
+  found_follow : (qs : List Posting) (ws : List Wanted) (hits : List (ℕ × Placed)) → PlacesRise slots → AllZip (IsPostingAt slots) qs ws → AllZip (IsHitAt slots) ws hits → Rise ws → Follow (found qs hits)
   found_follow [] ws hits up each are rise = tt
   found_follow (q ∷ qs) ws [] up each are rise = tt
   found_follow (q ∷ qs) [] (hit ∷ hits) up each are rise = absurd each

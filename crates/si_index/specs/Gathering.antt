@@ -12,7 +12,7 @@ use Rattle.si_flat.specs.Cells.{Term}
 use Rattle.si_legal.specs.declared.Posting.{Posting}
 use Rattle.si_legal.specs.StoredSets.{IsUnder}
 use Rattle.si_legal.specs.Trees.{Tree, StandsIn}
-use Rattle.si_index.specs.Leaves.{HasNode, AreUnmade}
+use Rattle.si_index.specs.Leaves.{HasLeafAt, AreUnmade}
 use Rattle.si_index.specs.Searching.{pattern_in, AreMatches, IsOfLeaf, hit_of}
 use Rattle.si_index.specs.Slots.{Slots, IsIn}
 use Rattle.si_index.specs.declared.gather.ClauseWalk.{ClauseWalk}
@@ -37,12 +37,12 @@ Rise [] = Unit {0}
 Rise (w ∷ ws) = AllByRecursion (IsBefore w) ws × Rise ws
 
 -- the entry of this posting stands there
-abbrev pub StandsFor : Slots → Posting → Wanted → Type 0
-StandsFor slots p w = IsIn slots w.slot p.clause × (w.entry ≡ p.entry)
+abbrev pub IsPostingAt : Slots → Posting → Wanted → Type 0
+IsPostingAt slots p w = IsIn slots w.slot p.clause × (w.entry ≡ p.entry)
 
 -- the tree stores the posting
-abbrev pub IsStored : Tree Term → Posting → Type 0
-IsStored tree p = (t : Term) × IsUnder tree t p
+abbrev pub StoresPosting : Tree Term → Posting → Type 0
+StoresPosting tree p = (t : Term) × IsUnder tree t p
 
 -- the posting of the entry there is stored in the leaf with this number
 pub record IsInLeaf (slots : Slots) (tree : Tree Term) (leaves : List Leaf) (w : Wanted)
@@ -50,7 +50,7 @@ pub record IsInLeaf (slots : Slots) (tree : Tree Term) (leaves : List Leaf) (w :
   pub key : ℕ
   pub has_key : IsIn slots w.slot key
   pub node : ℕ
-  pub has_node : HasNode leaves w.leaf node
+  pub has_node : HasLeafAt leaves w.leaf node
   pub term : Term
   pub stands : StandsIn tree node term (record { clause = key; entry = w.entry })
 
@@ -60,7 +60,7 @@ pub record AreInOrder (slots : Slots) (tree : Tree Term) (postings : List Postin
     : Type 0 where
   pub ordered : List Posting
   pub same : IsPermutation postings ordered
-  pub each : AllZip (StandsFor slots) ordered o.places.items
+  pub each : AllZip (IsPostingAt slots) ordered o.places.items
   pub rise : Rise o.places.items
   pub in_leaves : AllByRecursion (IsInLeaf slots tree o.leaves.items) o.places.items
   pub unmade : AreUnmade o.leaves.items

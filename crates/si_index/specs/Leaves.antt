@@ -5,8 +5,8 @@ use Rattle.si_form.specs.declared.solution.Binding.{Binding}
 use Rattle.si_index.specs.declared.wanted.Leaf.{Leaf}
 
 -- the leaf with this number is this node
-abbrev pub HasNode : List Leaf → ℕ → ℕ → Type 0
-HasNode leaves n node = (leaf : Leaf) × (slice_get leaves n ≡ Some leaf) × (leaf.node ≡ node)
+abbrev pub HasLeafAt : List Leaf → ℕ → ℕ → Type 0
+HasLeafAt leaves n node = (leaf : Leaf) × (slice_get leaves n ≡ Some leaf) × (leaf.node ≡ node)
 
 -- the list of the leaf with this number is made, and is this
 abbrev pub HasMade : List Leaf → ℕ → List Binding → Type 0
@@ -22,5 +22,5 @@ AreUnmade leaves = (n : ℕ) → IsUnmade leaves n
 
 -- what is known of leaves and of lists that are made stays
 pub record StayMade (old new : List Leaf) : Type 0 where
-  pub nodes : (n node : ℕ) → HasNode old n node → HasNode new n node
+  pub nodes : (n node : ℕ) → HasLeafAt old n node → HasLeafAt new n node
   pub lists : (n : ℕ) (list : List Binding) → HasMade old n list → HasMade new n list

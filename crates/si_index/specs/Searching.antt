@@ -26,7 +26,7 @@ use Rattle.si_legal.specs.declared.Posting.{Posting}
 use Rattle.si_legal.specs.Trees.{Tree, IsLeaf}
 use Rattle.si_held.specs.TwoTrees.{tree_for}
 use Rattle.si_index.specs.Engines.{asks_literals}
-use Rattle.si_index.specs.Leaves.{HasNode, HasMade}
+use Rattle.si_index.specs.Leaves.{HasLeafAt, HasMade}
 use Rattle.si_index.specs.Slots.{HasSlots}
 use Rattle.si_index.specs.declared.search.Search.{Search}
 use Rattle.si_index.specs.declared.wanted.Leaf.{Leaf}
@@ -121,13 +121,13 @@ IsLeafOf tree node t = (postings : List Posting) × IsLeaf tree node t postings
 -- the leaf with this number has the entry's term
 abbrev pub IsOfLeaf : Search → List Leaf → ℕ → Entry → Type 0
 IsOfLeaf s leaves n e =
-    (node : ℕ) × HasNode leaves n node × IsLeafOf (tree_in s) node (term_in s e)
+    (node : ℕ) × HasLeafAt leaves n node × IsLeafOf (tree_in s) node (term_in s e)
 
 -- the lists that are made are those of the leaves' terms
 abbrev pub AreMade : Search → List Leaf → Type 0
 AreMade s leaves =
     (n : ℕ) (list : List Binding) → HasMade leaves n list
-    → (node : ℕ) × HasNode leaves n node
+    → (node : ℕ) × HasLeafAt leaves n node
     × ((t : cells.Term) × IsLeafOf (tree_in s) node t × SolvesTerm s t list)
 
 -- ---- what was gathered

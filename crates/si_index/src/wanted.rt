@@ -4,10 +4,10 @@ ghost use Rattle.std.specs.List.{AllByRecursion};
 ghost use Rattle.std.specs.List.Sorted.{IsPermutation};
 ghost use Rattle.si_defs.specs.Substitutions.{IsAmong, AreDistinct};
 ghost use Rattle.si_held.specs.TwoTrees.{tree_for};
-ghost use Rattle.si_index.specs.Gathering.{AreInOrder, IsStored};
+ghost use Rattle.si_index.specs.Gathering.{AreInOrder, StoresPosting};
 ghost use Rattle.si_index.specs.Slots.{HasSlots};
 ghost use Rattle.si_index.specs.Sorting.{AreSorted};
-ghost use Rattle.si_index.specs.Leaves.{StayMade, HasNode, AreUnmade};
+ghost use Rattle.si_index.specs.Leaves.{StayMade, HasLeafAt, AreUnmade};
 
 use crate::index::Index;
 use si_forest::Trees;
@@ -57,7 +57,7 @@ pub(crate) fn in_order(
 ) -> Result<Ordered, AllocError>
     requires slots { HasSlots index.now slots.now }
     requires kept { AllByRecursion (λ p. IsAmong index.now.keys p.clause) postings.now }
-    requires stored { AllByRecursion (IsStored (tree_for literal trees.now)) postings.now }
+    requires stored { AllByRecursion (StoresPosting (tree_for literal trees.now)) postings.now }
     requires distinct { AreDistinct postings.now }
     ensures { IfOk result (AreInOrder slots.now (tree_for literal trees.now) postings.now) }
 {
@@ -94,7 +94,7 @@ fn number_of(leaves: &mut Vec<Leaf>, node: NodeId) -> Result<usize, AllocError>
     requires { AreUnmade leaves.old.items }
     ensures kept { OnOk result (StayMade leaves.old.items leaves.new.items) }
     ensures unmade { OnOk result (AreUnmade leaves.new.items) }
-    ensures node { IfOk result (λ n. HasNode leaves.new.items n node) }
+    ensures node { IfOk result (λ n. HasLeafAt leaves.new.items n node) }
 {
     let count = leaves.len();
     if count > 0 && leaves[count - 1].node == node {

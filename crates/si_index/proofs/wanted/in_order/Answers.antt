@@ -4,13 +4,13 @@ use Rattle.si_defs.specs.Substitutions.{IsAmong}
 use Rattle.si_defs.proofs.ListLaws.{all_get}
 use Rattle.si_legal.specs.declared.Posting.{Posting}
 use Rattle.si_held.specs.TwoTrees.{tree_for}
-use Rattle.si_index.specs.Gathering.{IsStored}
+use Rattle.si_index.specs.Gathering.{StoresPosting}
 use Rattle.si_index.proofs.SlotLaws.{is_placed}
 use Rattle.si_index.proofs.WantedLaws.{ArePlaced, placed_next, sorted_in_order}
 use Rattle.si_index.proofs.wanted.in_order.Goals as goal
 
 pub leaf_of-node-requires : goal.leaf_of-node-requires
-leaf_of-node-requires c = all_get (IsStored (tree_for c.args.literal c.args.trees.now)) c.args.postings.now c.loop-posting.posting-index _ c.requires.stored c.loop-posting-test.true
+leaf_of-node-requires c = all_get (StoresPosting (tree_for c.args.literal c.args.trees.now)) c.args.postings.now c.loop-posting.posting-index _ c.requires.stored c.loop-posting-test.true
 
 pub place-requires : goal.place-requires
 place-requires c =

@@ -8,7 +8,7 @@ use Rattle.si_held.specs.TwoTrees.{tree_for}
 use Rattle.si_index.specs.Engines.{asks_literals}
 use Rattle.si_index.specs.Searching.{hit_of, tree_in}
 use Rattle.si_index.specs.declared.search.Search.{Search}
-use Rattle.si_index.specs.Gathering.{AreInOrder, IsHitAt, IsStandingAt, IsStored, Rise}
+use Rattle.si_index.specs.Gathering.{AreInOrder, IsHitAt, IsStandingAt, StoresPosting, Rise}
 use Rattle.si_index.proofs.FlatLaws.{flat_is_numbered}
 use Rattle.si_index.proofs.FoundLaws.{is_ready}
 use Rattle.si_index.proofs.GatherLaws.{hits_solved}
@@ -37,8 +37,8 @@ in_order-requires-clause-stored g c =
     let told =
     is_answered (g.E.Engine.answers c.args.engine.now) c.args.self.now c.args.relation (pattern_of c.args.pattern.now) _ c.in_ok-named.named.query _ _ _ _
     c.signature-signature.ensures.numbers c.in_ok-named.ensures.query c.requires.standing c.asks_literals-literal.ensures c.in_ok-passed.ensures.answers c.new-postings.ensures.items c.as_slice.ensures.value in
-    subst (λ literal. AllByRecursion (IsStored (tree_for literal c.trees-trees.result.now)) c.as_slice.result.now) (sym c.asks_literals-literal.ensures)
-    (subst (λ trees. AllByRecursion (IsStored (tree_for (asks_literals (pattern_of c.args.pattern.now)) trees)) c.as_slice.result.now) (sym c.trees-trees.ensures.trees)
+    subst (λ literal. AllByRecursion (StoresPosting (tree_for literal c.trees-trees.result.now)) c.as_slice.result.now) (sym c.asks_literals-literal.ensures)
+    (subst (λ trees. AllByRecursion (StoresPosting (tree_for (asks_literals (pattern_of c.args.pattern.now)) trees)) c.as_slice.result.now) (sym c.trees-trees.ensures.trees)
     (postings_stored c.args.self.now c.args.relation (pattern_of c.args.pattern.now) _ c.trees-trees.ensures.hold told.standing))
 
 pub in_order-requires-clause-slots : goal.in_order-requires-clause-slots

@@ -12,7 +12,8 @@ use Rattle.si_session.specs.declared.short_reply.ShortReply.TheVariants as short
 abbrev pub tree_text : Bytes → Counts → Bytes
 tree_text words counts =
     (words ++ decimal counts.nodes)
-    ++ ((codes " leaves " ++ decimal counts.leaves) ++ (codes " unmerged " ++ decimal counts.unmerged))
+    ++ ((codes " leaves " ++ decimal counts.leaves)
+    ++ (codes " unmerged " ++ decimal counts.unmerged))
 
 -- how many lines stand before the last one
 abbrev pub lines_before : ShortReply → ℕ

@@ -15,7 +15,7 @@ use si_unify::Slots;
 use std::alloc::{AllocError, Global};
 
 /// What the terms of a class are, by the numbers of other classes. Equal terms have one number.
-#[derive(Clone, Copy, Debug, PartialEq, Eq, Hash)]
+#[derive(Clone, Copy, PartialEq, Eq, Hash)]
 pub(crate) enum Node {
     /// A variable, by its slot.
     Variable(usize),

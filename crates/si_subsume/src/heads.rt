@@ -10,7 +10,7 @@ use si_flat::Cell;
 use std::alloc::{AllocError, Global};
 
 /// The symbol at the head of a term, with its arity.
-#[derive(Clone, Copy, Debug, PartialEq, Eq, Hash)]
+#[derive(Clone, Copy, PartialEq, Eq, Hash)]
 pub(crate) struct Head {
     sym: u32,
     arity: u32,

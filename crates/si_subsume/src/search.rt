@@ -12,7 +12,7 @@ use si_unify::{Scratch, Slots, solve_with};
 use std::alloc::{AllocError, Global};
 
 /// A target that was chosen for a literal.
-#[derive(Clone, Copy, Debug)]
+#[derive(Clone, Copy)]
 pub(crate) struct Choice {
     /// The number of the target, from 0.
     pub(crate) number: usize,

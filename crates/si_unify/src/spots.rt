@@ -3,14 +3,14 @@ use crate::slots::Slots;
 use si_flat::Cell;
 
 /// A place in a text: a cell of the value of a slot, or of one of the two terms.
-#[derive(Clone, Copy, Debug, PartialEq, Eq, Hash)]
+#[derive(Clone, Copy, PartialEq, Eq, Hash)]
 pub(crate) struct Spot {
     pub(crate) base: usize,
     pub(crate) at: usize,
 }
 
 /// Two spots that are to be equal.
-#[derive(Clone, Copy, Debug, PartialEq, Eq, Hash)]
+#[derive(Clone, Copy, PartialEq, Eq, Hash)]
 pub(crate) struct SpotPair {
     pub(crate) left: Spot,
     pub(crate) right: Spot,

@@ -10,21 +10,21 @@ use si_lex::Lexeme;
 use std::alloc::{AllocError, Global};
 
 /// A kind of bracket.
-#[derive(Clone, Copy, Debug, PartialEq, Eq)]
+#[derive(Clone, Copy)]
 enum Bracket {
     Round,
     Square,
 }
 
 /// What a token does as a bracket.
-#[derive(Clone, Copy, Debug, PartialEq, Eq)]
+#[derive(Clone, Copy)]
 enum Edge {
     Opens(Bracket),
     Closes(Bracket),
 }
 
 /// What a token does to the brackets that are open.
-#[derive(Clone, Copy, Debug, PartialEq, Eq)]
+#[derive(Clone, Copy)]
 enum Turn {
     /// The annotations go on after it.
     GoesOn,

@@ -23,7 +23,7 @@ const MANY_OF_A_LEAF: usize = 64;
 
 /// Where a kept entry stands: the slot of its clause, and its number in the clause. Slots are in
 /// the order of the clauses, and a key leads to its slot by one read.
-#[derive(Clone, Copy, Debug, PartialEq, Eq, PartialOrd, Ord)]
+#[derive(Clone, Copy, PartialEq, Eq, PartialOrd, Ord)]
 pub(crate) struct Wanted {
     pub(crate) slot: u32,
     pub(crate) entry: u32,

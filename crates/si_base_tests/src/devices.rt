@@ -1,8 +1,8 @@
 ghost use Rattle.std.specs.Prelude.{⊤};
 
 use si_io::{
-    Disk, Failed, Fetched, Library, MemoryLibrary, MemorySink, MemorySource, RealLibrary, RealSink,
-    RealSource, Sink, Source, write_all,
+    Disk, Failed, Fetched, Library, MemorySink, RealLibrary, RealSink, RealSource, Sink, Source,
+    write_all,
 };
 use std::alloc::{AllocError, Global};
 use std::cell::Cell;
@@ -138,27 +138,6 @@ fn a_real_sink_hands_on_each_failure(rt: HostRuntime) {
     assert_eq!(rt; page.asked.as_slice(), b"wwwfwwfw".as_slice());
 }
 
-#[test]
-fn a_source_in_memory_gives_pieces(rt: HostRuntime) -> Result<(), Fail> {
-    let alloc = rt.alloc();
-    let mut into = [b'-'; 4];
-    let mut by_one = MemorySource::new(vec![in alloc; b'x', b'y']?, 0, Vec::new(alloc));
-    for count in [1, 1, 0, 0] {
-        assert_eq!(rt; read_from(&mut by_one, &mut into), Ok(count));
-    }
-    assert_eq!(rt; into.as_slice(), b"y---".as_slice());
-
-    let mut by_three = MemorySource::new(b"abcde".to_vec(alloc)?, 3, vec![in alloc; 2, 9]?);
-    assert_eq!(rt; by_three.read(&mut into[..0]), Ok(0));
-    assert_eq!(rt; by_three.read(&mut into), Err(Failed));
-    assert_eq!(rt; by_three.read(&mut into), Ok(3));
-    assert_eq!(rt; into.as_slice(), b"abc-".as_slice());
-    assert_eq!(rt; by_three.read(&mut into[2..]), Ok(2));
-    assert_eq!(rt; into.as_slice(), b"abde".as_slice());
-    assert_eq!(rt; by_three.read(&mut into), Ok(0));
-    Ok(())
-}
-
 /// What a sink with this room and chunk, and a third call that fails, has after all of `text` was
 /// written.
 fn kept_of(
@@ -201,29 +180,6 @@ fn fetch<L: Library>(
     let mut into = b"old".to_vec(alloc)?;
     let answer = library.fetch(name, &mut into, limit);
     Ok((answer, into))
-}
-
-#[test]
-fn a_library_in_memory_has_the_last_put(rt: HostRuntime) -> Result<(), Fail> {
-    let alloc = rt.alloc();
-    let mut library = MemoryLibrary::new(alloc, vec![in alloc; 5, 9]?);
-    library.put(b"a".to_vec(alloc)?, b"first".to_vec(alloc)?)?;
-    library.put(b"b".to_vec(alloc)?, Vec::new(alloc))?;
-    library.put(b"a".to_vec(alloc)?, b"last".to_vec(alloc)?)?;
-    let rows: [(&[u8], usize, Fetched, &[u8]); 6] = [
-        (b"a", 4, Fetched::Found, b"last"),
-        (b"a", 3, Fetched::TooBig, b""),
-        (b"ab", 9, Fetched::Missing, b""),
-        (b"b", 0, Fetched::Found, b""),
-        (b"a", 9, Fetched::Failed, b""),
-        (b"a", usize::MAX, Fetched::Found, b"last"),
-    ];
-    for (name, limit, answer, bytes) in rows {
-        let (got, left) = fetch(alloc, &mut library, name, limit)?;
-        assert_eq!(rt; got, answer, "limit {limit}");
-        assert_eq!(rt; left.as_slice(), bytes, "limit {limit}");
-    }
-    Ok(())
 }
 
 #[test]

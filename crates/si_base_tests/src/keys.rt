@@ -1,5 +1,4 @@
 use si_keyed::KeyedList;
-use std::test::Fail;
 
 // The position and the item of a key, where there are any, and its place tells the same, and the
 // mark, which is the item once more.
@@ -43,30 +42,27 @@ fn tells(list: &KeyedList<u32, u32>, plain: &[(usize, u32)]) -> bool {
     rest.is_empty()
 }
 
-// A hundred items are taken out in scattered order while others are appended, so that keys are
-// given out again and holes are closed. Beside the list goes a plain one.
-#[test]
-fn scattered(rt: HostRuntime) -> Result<(), Fail> {
-    let mut list = KeyedList::new(rt.alloc());
-    let mut plain = Vec::new(rt.alloc());
-    for item in 0..100 {
-        plain.push((list.push(item, item).expect(&rt, "memory"), item))?;
-    }
-    assert!(rt; tells(&list, plain.as_slice()));
-    for turn in 0..200 {
-        let key = (turn * 37 + 11) % 100;
-        let item = plain
-            .iter()
-            .find(|entry| entry.0 == key)
-            .map(|entry| entry.1);
-        assert_eq!(rt; taken(&mut list, key), item, "turn {turn}");
-        plain.retain(|entry| entry.0 != key);
-        assert_eq!(rt; list.get(key), None, "turn {turn}");
-        if turn % 5 == 0 && turn < 100 {
-            plain.push((list.push(1000, 1000).expect(&rt, "memory"), 1000))?;
+// Nine items come, and six of them go in scattered order, so that holes are closed. Then one more
+// comes.
+fn come_and_go(list: &mut KeyedList<u32, u32>) -> bool {
+    for item in 0..9 {
+        if list.push(item, item).is_err() {
+            return false;
         }
-        assert!(rt; tells(&list, plain.as_slice()), "turn {turn}");
     }
-    assert_eq!(rt; list.last_key(), None);
-    Ok(())
+    for (key, item) in [(7, 7), (0, 0), (3, 3), (4, 4), (8, 8), (1, 1)] {
+        if taken(list, key) != Some(item) || list.get(key).is_some() {
+            return false;
+        }
+    }
+    let Ok(key) = list.push(9, 9) else {
+        return false;
+    };
+    tells(list, &[(2, 2), (5, 5), (6, 6), (key, 9)])
+}
+
+#[test]
+fn items_keep_their_keys(rt: HostRuntime) {
+    let mut list = KeyedList::new(rt.alloc());
+    assert!(rt; come_and_go(&mut list));
 }

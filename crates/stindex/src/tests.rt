@@ -32,20 +32,7 @@ const WHOLE: Device = Device {
 /// More than what these tests write.
 const ROOM: usize = 1 << 16;
 
-/// How a run over this input and a library without files ended, and what it wrote.
-fn run(
-    alloc: Global,
-    limits: &Limits,
-    input: &[u8],
-    from: Device,
-    to: Device,
-    room: usize,
-) -> Result<(Status, Vec<u8>), AllocError> {
-    let mut library = MemoryLibrary::new(alloc, Vec::new(alloc));
-    run_over(alloc, limits, input, (from, to), room, &mut library)
-}
-
-/// The same over this library.
+/// How a run over this input and this library ended, and what it wrote.
 fn run_over(
     alloc: Global,
     limits: &Limits,
@@ -78,9 +65,39 @@ fn call(
     Ok((status, sink.bytes().to_vec(alloc)?))
 }
 
-/// What a run over this input writes, where no device fails.
+/// How a run over this input and a library without files ended, and what it wrote, where no device
+/// fails.
 fn written(alloc: Global, limits: &Limits, input: &[u8]) -> Result<(Status, Vec<u8>), AllocError> {
-    run(alloc, limits, input, WHOLE, WHOLE, ROOM)
+    let mut library = MemoryLibrary::new(alloc, Vec::new(alloc));
+    run_over(alloc, limits, input, (WHOLE, WHOLE), ROOM, &mut library)
+}
+
+/// Looks at how a run over this library ends, and at what it writes.
+fn assert_run_over(
+    rt: &impl Abort,
+    alloc: Global,
+    limits: &Limits,
+    input: &[u8],
+    (devices, room): ((Device, Device), usize),
+    library: &mut MemoryLibrary,
+    (end, output): (Status, &[u8]),
+) -> Result<(), AllocError> {
+    let (status, bytes) = run_over(alloc, limits, input, devices, room, library)?;
+    assert_eq!(rt; (status, bytes.as_slice()), (end, output), "at {input:?}");
+    Ok(())
+}
+
+/// The same over a library without files.
+fn assert_run(
+    rt: &impl Abort,
+    alloc: Global,
+    limits: &Limits,
+    input: &[u8],
+    devices: ((Device, Device), usize),
+    due: (Status, &[u8]),
+) -> Result<(), AllocError> {
+    let mut library = MemoryLibrary::new(alloc, Vec::new(alloc));
+    assert_run_over(rt, alloc, limits, input, devices, &mut library, due)
 }
 
 /// The line `add cnf(n,axiom,p(T)).`, where `T` is `a` inside so many `f(` `)`.
@@ -108,7 +125,7 @@ fn wide(alloc: Global, more: u32) -> Result<Vec<u8>, AllocError> {
 }
 
 /// Inputs with their outputs under the standard limits.
-const ROWS: [(&[u8], &[u8]); 22] = [
+const ROWS: [(&[u8], &[u8]); 21] = [
     (b"", b""),
     (b"\n", b""),
     (b" \t\n\n", b""),
@@ -189,11 +206,6 @@ const ROWS: [(&[u8], &[u8]); 22] = [
         b"add cnf('a b',axiom,'p q'(\"x y\",-3)|X!='it\\'s').\ninstances lit X!=Y\ninstances term X\n",
         b"ok 1 5\n'a b':2 {?X -> X; ?Y -> 'it\\'s'}\nend 1\n'a b':1:1 {?X -> \"x y\"}\n'a b':1:2 {?X -> -3}\n'a b':2:2 {?X -> 'it\\'s'}\nend 3\n",
     ),
-    // As provers write clauses.
-    (
-        b"add cnf(e,plain,($false),inference(spm,[status(thm)],[c_0_2,c_0_3])).\nadd cnf(c_0_5, plain, (p(X1)|~q(X1,esk1_0)), inference(rw,[status(thm)],[c_0_2, c_0_3]), ['final']).\n",
-        b"ok 1 1\nok 1 3\n",
-    ),
     // Blanks between tokens may be empty, and signs part literals.
     (
         b"add/**/cnf(c,axiom,~p|q).\ninstances lit~p\ninstances lit q\ninstances lit p\n",
@@ -212,10 +224,10 @@ fn assert_outputs(
     alloc: Global,
     rows: &[(&[u8], &[u8])],
 ) -> Result<(), AllocError> {
+    let limits = Limits::standard();
     for &(input, output) in rows {
-        let (status, bytes) = written(alloc, &Limits::standard(), input)?;
-        assert_eq!(rt; status, Status::Ended);
-        assert_eq!(rt; bytes.as_slice(), output, "at {input:?}");
+        let due = (Status::Ended, output);
+        assert_run(rt, alloc, &limits, input, ((WHOLE, WHOLE), ROOM), due)?;
     }
     Ok(())
 }
@@ -258,28 +270,36 @@ fn chunks_and_the_length_of_a_line(rt: HostRuntime) -> Result<(), Fail> {
     for chunk in 1..=7 {
         let from = Device { chunk, fails_at: 0 };
         for (input, output) in rows {
-            let (status, bytes) = run(alloc, &limits, input, from, WHOLE, ROOM)?;
-            assert_eq!(rt; status, Status::Ended);
-            assert_eq!(rt; bytes.as_slice(), output, "chunk {chunk} at {input:?}");
+            let due = (Status::Ended, output);
+            assert_run(&rt, alloc, &limits, input, ((from, WHOLE), ROOM), due)?;
         }
     }
     Ok(())
 }
 
+/// Looks at the reply to a clause whose term is nested so deep.
+fn assert_nested(
+    rt: &impl Abort,
+    alloc: Global,
+    depth: u32,
+    output: &[u8],
+) -> Result<(), AllocError> {
+    let line = nested(alloc, depth)?;
+    assert_outputs(rt, alloc, &[(line.as_slice(), output)])
+}
+
+/// Looks at the reply to a clause whose atom has so many more arguments than one.
+fn assert_wide(rt: &impl Abort, alloc: Global, more: u32, output: &[u8]) -> Result<(), AllocError> {
+    let line = wide(alloc, more)?;
+    assert_outputs(rt, alloc, &[(line.as_slice(), output)])
+}
+
 #[test]
 fn deep_and_wide_clauses(rt: HostRuntime) -> Result<(), Fail> {
-    let alloc = rt.alloc();
-    let rows: [(Vec<u8>, &[u8]); 4] = [
-        (nested(alloc, 510)?, b"ok 1 512\n"),
-        (nested(alloc, 511)?, b"! syntax\n"),
-        (wide(alloc, 0)?, b"ok 1 2\n"),
-        (wide(alloc, 4999)?, b"ok 1 5001\n"),
-    ];
-    for (input, output) in rows {
-        let (status, bytes) = written(alloc, &Limits::standard(), &input)?;
-        assert_eq!(rt; status, Status::Ended);
-        assert_eq!(rt; bytes.as_slice(), output);
-    }
+    assert_nested(&rt, rt.alloc(), 510, b"ok 1 512\n")?;
+    assert_nested(&rt, rt.alloc(), 511, b"! syntax\n")?;
+    assert_wide(&rt, rt.alloc(), 0, b"ok 1 2\n")?;
+    assert_wide(&rt, rt.alloc(), 4999, b"ok 1 5001\n")?;
     Ok(())
 }
 
@@ -302,13 +322,8 @@ fn a_session_has_a_limit(rt: HostRuntime) -> Result<(), Fail> {
         };
         for chunk in 1..=5 {
             let from = Device { chunk, fails_at: 0 };
-            let (status, bytes) = run(alloc, &limits, input, from, WHOLE, ROOM)?;
-            assert_eq!(rt; status, end, "session {session}, chunk {chunk}");
-            assert_eq!(rt;
-                bytes.as_slice(),
-                output,
-                "session {session}, chunk {chunk}"
-            );
+            let devices = ((from, WHOLE), ROOM);
+            assert_run(&rt, alloc, &limits, input, devices, (end, output))?;
         }
     }
     Ok(())
@@ -327,46 +342,47 @@ fn a_device_fails_at_once(rt: HostRuntime) -> Result<(), Fail> {
     };
     let limits = Limits::standard();
     let query = b"instances lit p(X)\n";
-    let (status, bytes) = run(alloc, &limits, query, failing, WHOLE, ROOM)?;
-    assert_eq!(rt; status, Status::SourceFault);
-    assert_eq!(rt; bytes.as_slice(), b"".as_slice());
+    let due = (Status::SourceFault, b"".as_slice());
+    assert_run(&rt, alloc, &limits, query, ((failing, WHOLE), ROOM), due)?;
     let clause = b"add cnf(c1,axiom,p(f(X),a)).\n";
-    let (status, bytes) = run(alloc, &limits, clause, WHOLE, by_one, 3)?;
-    assert_eq!(rt; status, Status::SinkFault);
-    assert_eq!(rt; bytes.as_slice(), b"ok ".as_slice());
+    let due = (Status::SinkFault, b"ok ".as_slice());
+    assert_run(&rt, alloc, &limits, clause, ((WHOLE, by_one), 3), due)?;
     Ok(())
 }
 
 #[test]
-fn limits_on_entries_and_input(rt: HostRuntime) -> Result<(), Fail> {
-    let alloc = rt.alloc();
+fn entries_have_a_limit(rt: HostRuntime) -> Result<(), Fail> {
     let few = Limits {
         entries: 3,
         ..Limits::standard()
     };
     let input =
         b"add cnf(c1,axiom,p(f(X),a)).\nadd cnf(u,axiom,r).\nremove c1\nadd cnf(u,axiom,r).\n";
-    let (status, bytes) = written(alloc, &few, input)?;
-    assert_eq!(rt; status, Status::Ended);
-    assert_eq!(rt;
-        bytes.as_slice(),
-        b"ok 1 3\n! full 4 3\nok 1 3\nok 1 1\n".as_slice()
+    let due = (
+        Status::Ended,
+        b"ok 1 3\n! full 4 3\nok 1 3\nok 1 1\n".as_slice(),
     );
+    assert_run(&rt, rt.alloc(), &few, input, ((WHOLE, WHOLE), ROOM), due)?;
+    Ok(())
+}
+
+#[test]
+fn input_ends_after_a_command(rt: HostRuntime) -> Result<(), Fail> {
+    let alloc = rt.alloc();
     let short = Limits {
         session: 8,
         ..Limits::standard()
     };
-    let counted: &[u8] = b"clauses 0 entries 0 symbols 0\n";
-    let (status, bytes) = written(alloc, &short, b"stats\nstats\n")?;
-    assert_eq!(rt; status, Status::SessionLimit);
-    assert_eq!(rt; bytes.as_slice(), counted);
+    let input = b"stats\nstats\n";
+    let counted = b"clauses 0 entries 0 symbols 0\n".as_slice();
+    let due = (Status::SessionLimit, counted);
+    assert_run(&rt, alloc, &short, input, ((WHOLE, WHOLE), ROOM), due)?;
     let failing = Device {
         chunk: 1,
         fails_at: 8,
     };
+    let due = (Status::SourceFault, counted);
     let limits = Limits::standard();
-    let (status, bytes) = run(alloc, &limits, b"stats\nstats\n", failing, WHOLE, ROOM)?;
-    assert_eq!(rt; status, Status::SourceFault);
-    assert_eq!(rt; bytes.as_slice(), counted);
+    assert_run(&rt, alloc, &limits, input, ((failing, WHOLE), ROOM), due)?;
     Ok(())
 }

@@ -1,6 +1,6 @@
 // A session in which each call of a device fails in turn, and loads of a file that is cut off.
 use super::loads::{assert_output, library_of};
-use super::{Device, ROOM, WHOLE, run_over};
+use super::{Device, ROOM, WHOLE, assert_run_over};
 use crate::status::Status;
 use si_session::Limits;
 use std::alloc::{AllocError, Global};
@@ -38,14 +38,18 @@ fn assert_front(
     end: Status,
     count: usize,
 ) -> Result<(), AllocError> {
-    let mut due = REPLIES.to_vec(alloc)?;
-    due.truncate(count);
     let mut library = library_of(alloc, FILES, 0)?;
+    let due = (end, &REPLIES[..count.min(REPLIES.len())]);
     let limits = Limits::standard();
-    let (status, bytes) = run_over(alloc, &limits, LINES, devices, room, &mut library)?;
-    assert_eq!(rt; status, end, "count {count}");
-    assert_eq!(rt; bytes.as_slice(), due.as_slice(), "count {count}");
-    Ok(())
+    assert_run_over(
+        rt,
+        alloc,
+        &limits,
+        LINES,
+        (devices, room),
+        &mut library,
+        due,
+    )
 }
 
 #[test]
@@ -134,9 +138,7 @@ fn assert_cut(
     count: usize,
     reply: &[u8],
 ) -> Result<(), AllocError> {
-    let mut cut = AXIOMS.to_vec(alloc)?;
-    cut.truncate(count);
-    let files: [(&[u8], &[u8]); 1] = [(b"grp.ax", cut.as_slice())];
+    let files: [(&[u8], &[u8]); 1] = [(b"grp.ax", &AXIOMS[..count.min(AXIOMS.len())])];
     let limits = Limits::standard();
     assert_output(rt, alloc, &limits, (&files, 0), b"load 'grp.ax'\n", reply)
 }

@@ -1,5 +1,5 @@
 // Sessions that load files.
-use super::{ROOM, WHOLE, run_over};
+use super::{ROOM, WHOLE, assert_run_over};
 use crate::status::Status;
 use si_io::MemoryLibrary;
 use si_session::Limits;
@@ -197,11 +197,9 @@ pub fn assert_output(
     output: &[u8],
 ) -> Result<(), AllocError> {
     let mut library = library_of(alloc, files, fails_at)?;
-    let devices = (WHOLE, WHOLE);
-    let (status, bytes) = run_over(alloc, limits, input, devices, ROOM, &mut library)?;
-    assert_eq!(rt; status, Status::Ended);
-    assert_eq!(rt; bytes.as_slice(), output, "at {input:?}");
-    Ok(())
+    let devices = ((WHOLE, WHOLE), ROOM);
+    let due = (Status::Ended, output);
+    assert_run_over(rt, alloc, limits, input, devices, &mut library, due)
 }
 
 #[test]

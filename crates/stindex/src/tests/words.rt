@@ -4,6 +4,7 @@ ghost use Rattle.si_state.specs.Harvest.{Files};
 ghost use Rattle.si_steps.specs.declared.limits.Limits.{Limits};
 ghost use Rattle.stindex.specs.Serve.{HasRoomForOutputs};
 
+use super::loads::library_of;
 use super::{ROOM, WHOLE, call};
 use crate::serve::decline;
 use crate::status::Status;
@@ -89,18 +90,20 @@ fn called(
     file: &[u8],
     input: &[u8],
 ) -> Result<(Status, Vec<u8>), AllocError> {
-    let mut library = MemoryLibrary::new(alloc, Vec::new(alloc));
-    library.put(b"a.p".to_vec(alloc)?, file.to_vec(alloc)?)?;
+    let mut library = library_of(alloc, &[(b"a.p", file)], 0)?;
+    called_over(alloc, words, limits, input, &mut library)
+}
+
+/// The same over this library.
+fn called_over(
+    alloc: Global,
+    words: &[&str],
+    limits: &Limits,
+    input: &[u8],
+    library: &mut MemoryLibrary,
+) -> Result<(Status, Vec<u8>), AllocError> {
     let words = owned(alloc, words)?;
-    call(
-        alloc,
-        &words,
-        limits,
-        input,
-        (WHOLE, WHOLE),
-        ROOM,
-        &mut library,
-    )
+    call(alloc, &words, limits, input, (WHOLE, WHOLE), ROOM, library)
 }
 
 #[test]

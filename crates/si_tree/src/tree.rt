@@ -1,5 +1,5 @@
 // A tree as its nodes in a slab.
-ghost use Rattle.std.specs.Prelude.{◌≡◌, ◌<◌, ℕ, IfOk, IfSome, IfNone, OnErr, OnOk, Some, length, slice_get};
+ghost use Rattle.std.specs.Prelude.{◌≡◌, ◌<◌, ◌≤◌, ◌^◌, ℕ, IfOk, IfSome, IfNone, OnErr, OnOk, Some, length, slice_get};
 ghost use Rattle.slab.specs.Slab.{HasRoomFor};
 ghost use Rattle.si_flat.specs.Rows.{AreWhole};
 ghost use Rattle.si_legal.specs.Bindings.{StandForBindings};
@@ -302,6 +302,7 @@ fn make_room(alloc: Global, nodes: &mut Slab<TreeNode>, parent: usize) -> Result
 fn reserve_nodes(nodes: &mut Slab<TreeNode>, more: usize) -> Result<(), AllocError>
     ensures room { OnOk result (HasRoomFor nodes.new more) }
     ensures named { OnOk result (HaveShortKeys nodes.new) }
+    ensures full { OnErr result (HasRoomFor nodes.old more → 2 ^ 32 ≤ nodes.new.capacity) }
     ensures rest_kept { nodes.new ≡ record nodes.old { capacity = nodes.new.capacity } }
 {
     nodes.reserve(more)?;

@@ -136,8 +136,9 @@ module _ (old new : Tree Term) (parent key : ℕ) (bindings : List Binding) (p :
     ];
   }
 
-  leaves : OtherLeavesStay old new key
-  leaves = other_leaves old new key parent [] (key ∷ []) legal relinked
+  -- each leaf stays, with or without postings
+  pub other_leaves_stay : OtherLeavesStay old new key
+  other_leaves_stay = other_leaves old new key parent [] (key ∷ []) legal relinked
 
   is_leaf : IsLeaf new key (applied bindings (path_term ((parent, may.node) ∷ may.above))) (p ∷ [])
   is_leaf = record { node = leaf_below parent bindings (p ∷ []); above = lift.path; reached = new_path; content = refl; term = sym new_term }
@@ -155,7 +156,7 @@ adds_leaf old new parent key bindings p legal may adds t t_is = (tree.0, tree.1,
 
   tree : IsLegal new × Gains old new t p × KeepsLeaves old new
   tree =
-      gains_leaf old new key t p legal (nodes old new parent key bindings p legal may adds) adds.vacant (leaves old new parent key bindings p legal may adds)
+      gains_leaf old new key t p legal (nodes old new parent key bindings p legal may adds) adds.vacant (other_leaves_stay old new parent key bindings p legal may adds)
       (subst (λ u. IsLeaf new key u (p ∷ [])) (sym t_is) (is_leaf old new parent key bindings p legal may adds))
       (subst (λ u. MayComeIn old u p) (sym t_is) may.may_come)
       (subst (RoomFor old new) (term ∙ sym t_is) (room old new parent key bindings p legal may adds))

@@ -637,8 +637,9 @@ module _ (old new : Tree Term) (key : ℕ) (parts : Parts) (others : List Bindin
     by k n has (is_leaf e) = legal_at new k leaf_key n leaf_of has e s.new_leaf leaf_legal
     by k n has (is_other same x y z) = other_legal k n (sym same ∙ has) x y
 
-  leaves : OtherLeavesStay old new leaf_key
-  leaves k other = by (which k) where
+  -- each leaf stays, with or without postings
+  pub other_leaves_stay : OtherLeavesStay old new leaf_key
+  other_leaves_stay k other = by (which k) where
     by : Which k → LeafStays old new k
     by (is_key e) = subst (LeafStays old new) (sym e)
         (leaf_stays old new key node rest_of ((key, node) ∷ upper) ((key, rest_of) ∷ (inner_key, inner_of) ∷ top) has_key has_rest may.reached (refl, has_rest, (refl, has_inner, upper_over.lifted.reached)) refl (key_lifts upper_over).term)
@@ -652,7 +653,7 @@ module _ (old new : Tree Term) (key : ℕ) (parts : Parts) (others : List Bindin
   -- leaf's term. Every other posting stays in its leaf.
   pub splits_node : IsLegal new × Gains old new leaf_term p × KeepsLeaves old new
   splits_node =
-      gains_leaf old new leaf_key leaf_term p legal new_nodes s.leaf_vacant leaves
+      gains_leaf old new leaf_key leaf_term p legal new_nodes s.leaf_vacant other_leaves_stay
       (record { node = leaf_of; above = (inner_key, inner_of) ∷ top; reached = leaf_reached; content = refl; term = sym same_leaf_term })
       may.may_come room more
 

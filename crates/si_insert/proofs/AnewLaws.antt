@@ -10,7 +10,7 @@ use Rattle.si_tree.specs.Renumbers.{Renumbers}
 use Rattle.si_insert.specs.Inserting.{MayInsert, Inserts, Places, KeepsAll}
 
 pub stays_same : (tree : Tree Term) → KeepsAll tree tree
-stays_same tree = (λ t postings. (λ h. h, λ h. h), λ key t p stands under. stands)
+stays_same tree = (λ t postings. (λ h. h, λ h. h), λ key t p stands under. stands, λ key t postings l. l)
 
 pub stays_equal : (old new : Tree Term) → new ≡ old → KeepsAll old new
 stays_equal old new e = subst (KeepsAll old) (sym e) (stays_same old)
@@ -26,18 +26,19 @@ pub stays_through : (old mid new : Tree Term) → KeepsAll old mid → KeepsAll 
 stays_through old mid new one two = (
   λ t postings. (λ h. (two.0 t postings).0 ((one.0 t postings).0 h), λ h. (one.0 t postings).1 ((two.0 t postings).1 h)),
   λ key t p stands under. two.1 key t p (one.1 key t p stands (stored_there old mid t p (λ postings h. (one.0 t postings).0 h) (key, stands))) under,
+  λ key t postings l. two.2 key t postings (one.2 key t postings l),
 )
 
 -- whether or not they could be numbered
 pub renumbered_stays : (old new : Tree Term) {T E : Type 0} (r : Result T E) → OnOk r (Renumbers old new) → OnErr r (new ≡ old) → KeepsAll old new
-renumbered_stays old new (Ok x) renumbers same = (renumbers.stays, renumbers.keeps)
+renumbered_stays old new (Ok x) renumbers same = (renumbers.stays, renumbers.keeps, renumbers.leaves)
 renumbered_stays old new (Err e) renumbers same = stays_equal old new same
 
 -- after a first try that wanted numbers
 pub renumbered_after : (old mid tried new : Tree Term) (cells : List Cell) (p : Posting) (placed : Option ℕ) → KeepsAll old mid → Places mid tried cells p placed → placed ≡ None → Renumbers tried new → KeepsAll old new
 renumbered_after old mid tried new cells p placed kept places none renumbers =
     let same : Places mid tried cells p None = subst (Places mid tried cells p) none places in
-    let stays : KeepsAll mid new = subst (λ k. KeepsAll k new) same (renumbers.stays, renumbers.keeps) in
+    let stays : KeepsAll mid new = subst (λ k. KeepsAll k new) same (renumbers.stays, renumbers.keeps, renumbers.leaves) in
     stays_through old mid new kept stays
 
 pub may_still : (old mid : Tree Term) (cells : List Cell) (p : Posting) → KeepsAll old mid → MayInsert old cells p → MayInsert mid cells p
@@ -55,6 +56,7 @@ inserted_after old mid new cells p key kept i = record {
   gains = λ t stands. gained t (i.gains t stands);
   stands = i.stands;
   keeps = λ k t q stands under. i.keeps k t q (kept.1 k t q stands (stored_there old mid t q (λ postings h. (kept.0 t postings).0 h) (k, stands))) under;
+  again = λ t k postings stands l. i.again t k postings stands (kept.2 k t postings l);
 } where
   gained : (t : Term) → Gains mid new t p → Gains old new t p
   gained t g = record {

@@ -1,5 +1,6 @@
 -- What the calls of an insertion need, and what they give.
-use Rattle.std.proofs.Common.{◌≡◌, ℕ, inl, List, [], ◌∷◌, ◌++◌, None, Some, refl, sym, ◌∙◌, ap, subst}
+use Rattle.std.proofs.Common.{◌≡◌, ℕ, inl, inr, List, [], ◌∷◌, ◌++◌, None, Some, refl, sym, ◌∙◌, ap, subst}
+use Rattle.std.proofs.lemmas.Bool.{cases_eq}
 use Rattle.std.proofs.lemmas.Option.{same_Some}
 use Rattle.si_defs.specs.Terms as terms
 use Rattle.si_defs.specs.Substitutions.{IsAmong, AreDistinct}
@@ -22,8 +23,9 @@ use Rattle.si_changes.specs.Leaves.{MayAddLeaf, IsTermAt}
 use Rattle.si_changes.proofs.Borrowed.{bound_left}
 use Rattle.si_changes.proofs.NewLeaves.{counted}
 use Rattle.si_changes.proofs.ComposeLaws.{right_applied}
-use Rattle.si_changes.proofs.LeafLaws.{adds_leaf}
+use Rattle.si_changes.proofs.LeafLaws.{adds_leaf, other_leaves_stay}
 use Rattle.si_changes.proofs.PostingLaws.{leaf_here}
+use Rattle.si_changes.proofs.StoredLaws.{OtherLeavesStay}
 use Rattle.si_tree.specs.declared.node.Head.{Head}
 use Rattle.si_tree.specs.declared.node.Head.TheVariants.{Sym, Var}
 use Rattle.si_tree.specs.Decoding.{bindings_of}
@@ -159,14 +161,23 @@ leaf_at tree key node ps t has content at = by at.0 at.1 at.2 where
         term = e ∙ ap path_term all;
       }
 
+-- a leaf with the new leaf's term is the new leaf, as all others stay
+pub again_there : (old new : Tree Term) (key : ℕ) (t : Term) (ps : List Posting) → IsLegal new → OtherLeavesStay old new key → IsLeaf new key t ps → (k : ℕ) (qs : List Posting) → IsLeaf old k t qs → k ≡ key
+again_there old new key t ps legal stay is k qs l = elim (cases_eq k key) as (λ _. k ≡ key) [
+  | inl same ↦ same
+  | inr differs ↦ legal.terms_differ k key t qs ps ((stay k differs t qs).0 l) is
+]
+
 pub leaf_added : (old new : Tree Term) (cells : List Cell) (t : Term) (key split new_key : ℕ) (all : List Opened) (p : Posting) (head : Head) (bindings : List CellPair) → IsLegal old → StandsFor cells t → (w : Walk old cells t key all) → IsInner old key split w.path w.there → MayComeIn old t p → GivesHead cells all split head → ((child : ℕ) → IsChildBy old key head child → ⊥) → bindings ≡ open_pairs cells all → HasNewLeaf old new key (bindings_of bindings) p new_key → Inserts old new cells p new_key
 leaf_added old new cells t key split new_key all p head bindings legal stands w i may gives none e leaf_there =
     let may_here = may_add_here old cells t key split all p head bindings w i may gives none e in
     let a = adds_leaf old new key new_key (bindings_of bindings) p legal may_here leaf_there.adds t (term_is may_here) in
+    let is_leaf = leaf_at new new_key (leaf_below key (bindings_of bindings) (p ∷ [])) (p ∷ []) t leaf_there.adds.new_leaf refl a.3 in
     record {
       gains = λ u other. subst (λ v. Gains old new v p) (one_term cells t u stands other) a.1;
-      stands = λ u other. subst (λ v. StandsIn new new_key v p) (one_term cells t u stands other) (p ∷ [], leaf_at new new_key (leaf_below key (bindings_of bindings) (p ∷ [])) (p ∷ []) t leaf_there.adds.new_leaf refl a.3, inl refl);
+      stands = λ u other. subst (λ v. StandsIn new new_key v p) (one_term cells t u stands other) (p ∷ [], is_leaf, inl refl);
       keeps = a.2;
+      again = λ u k qs other l. again_there old new new_key t (p ∷ []) a.0 (other_leaves_stay old new key new_key (bindings_of bindings) p legal may_here leaf_there.adds) is_leaf k qs (subst (λ v. IsLeaf old k v qs) (sym (one_term cells t u stands other)) l);
     } where
       term_is : (m : MayAddLeaf old key (bindings_of bindings) p) → t ≡ applied (bindings_of bindings) (path_term ((key, m.node) ∷ m.above))
       term_is m = sym w.underway.gives ∙ (λ j. applied (sym (bindings_are old cells t key all bindings w e) j) (path_term (one_path old (Some key) w.path ((key, m.node) ∷ m.above) w.underway.reached m.reached j)))
@@ -202,6 +213,7 @@ posted old new cells key t ps p legal stands is adds =
       gains = λ u other. subst (λ v. Gains old new v p) (one_term cells t u stands other) (adds.gains t is');
       stands = λ u other. subst (λ v. StandsIn new key v p) (one_term cells t u stands other) (adds.postings ++ p ∷ [], after, among_back adds.postings (p ∷ []) p (inl refl));
       keeps = adds.keeps;
+      again = λ u k qs other l. legal.terms_differ k key t qs ps (subst (λ v. IsLeaf old k v qs) (sym (one_term cells t u stands other)) l) is;
     } where
       leaf_same : (qs rs : List Posting) → leaf qs ≡ leaf rs → qs ≡ rs
       leaf_same qs rs e = cc

@@ -11,13 +11,13 @@ use Rattle.si_unify.proofs.Reading.{one_term}
 use Rattle.si_legal.specs.declared.Posting.{Posting}
 use Rattle.si_legal.specs.Bindings.{Binding, right_sizes, OpensNone, StandForBindings}
 use Rattle.si_legal.specs.Generalizations.{same_head, MaySplit, Splits}
-use Rattle.si_legal.specs.Trees.{Tree, Path, path_term, StandsIn}
+use Rattle.si_legal.specs.Trees.{Tree, Path, path_term, IsLeaf, StandsIn}
 use Rattle.si_legal.specs.StoredSets.{Gains}
 use Rattle.si_changes.specs.Nodes.{leaf_below}
 use Rattle.si_changes.specs.Leaves.{IsTermAt}
 use Rattle.si_changes.specs.Splits.{Parts, MaySplitNode}
 use Rattle.si_changes.proofs.OpenLaws.{may_split}
-use Rattle.si_changes.proofs.SplitTreeLaws.{splits_term}
+use Rattle.si_changes.proofs.SplitTreeLaws.{splits_node, splits_term, other_leaves_stay}
 use Rattle.si_mscg.specs.Generalising.{MayGeneralise, Generalises}
 use Rattle.si_tree.specs.Decoding.{bindings_of}
 use Rattle.si_tree.specs.Reading.{AtNode}
@@ -34,7 +34,7 @@ use Rattle.si_insert.proofs.BindLaws.{bound_all, within_stays, lefts_opened}
 use Rattle.si_insert.proofs.UnderwayLaws.{none_open, may_pass}
 use Rattle.si_insert.proofs.EndLaws.{opens_none_of, head_same, may_split_node, term_stays}
 use Rattle.si_insert.proofs.WalkLaws.{Below, below_child}
-use Rattle.si_insert.proofs.InsertLaws.{stand_whole, leaf_at}
+use Rattle.si_insert.proofs.InsertLaws.{stand_whole, leaf_at, again_there}
 use Rattle.si_insert.proofs.PartLaws.{lengths_are}
 
 module _ (tree : Tree Term) (cells : List Cell) (all : List Opened) (child : ℕ) (p : Posting) (m : MayPart tree cells all child p) (pairs : List CellPair) (at : AtNode tree child (λ n. StandForBindings pairs n.bindings)) where
@@ -153,8 +153,10 @@ module _ (tree : Tree Term) (cells : List Cell) (all : List Opened) (child : ℕ
         by : HasSplitLeaf tree tree' child parts others p key → Inserts tree tree' cells p key
         by l =
             let at : IsTermAt tree' key m.term = subst (IsTermAt tree' key) (term_stays tree m.key child m.by.split m.by.children m.by.node below.node above m.term below.right m.part m.there new others cut.0 cut.1 cut.2 p m.legal underway m.by.content below.has below.below m.among below.binds same open_at has_numbers cut.6 never refl m.may) (splits_term tree tree' child parts others p l.inner_key key m.legal may l.splits) in
+            let is_leaf = leaf_at tree' key (leaf_below l.inner_key (parts.rest_new ++ others) (p ∷ [])) (p ∷ []) m.term l.splits.new_leaf refl at in
             record {
               gains = λ u other. subst (λ v. Gains tree tree' v p) (one_term cells m.term u m.stands other) (l.gains m.term at);
-              stands = λ u other. subst (λ v. StandsIn tree' key v p) (one_term cells m.term u m.stands other) (p ∷ [], leaf_at tree' key (leaf_below l.inner_key (parts.rest_new ++ others) (p ∷ [])) (p ∷ []) m.term l.splits.new_leaf refl at, inl refl);
+              stands = λ u other. subst (λ v. StandsIn tree' key v p) (one_term cells m.term u m.stands other) (p ∷ [], is_leaf, inl refl);
               keeps = l.keeps;
+              again = λ u k qs other j. again_there tree tree' key m.term (p ∷ []) (splits_node tree tree' child parts others p l.inner_key key m.legal may l.splits).0 (other_leaves_stay tree tree' child parts others p l.inner_key key m.legal may l.splits) is_leaf k qs (subst (λ v. IsLeaf tree k v qs) (sym (one_term cells m.term u m.stands other)) j);
             }

@@ -18,7 +18,7 @@ use Rattle.si_changes.specs.Places.{number_among, renumbered_node, IsPlaced}
 use Rattle.si_changes.proofs.FewOpened.{few_next}
 use Rattle.si_changes.proofs.PlacedLaws.{placed_renumbered}
 use Rattle.si_changes.proofs.RenamedTerms.{map_among}
-use Rattle.si_changes.proofs.RenumberLaws.{renumbered_legal, renumbered_stored, renumbered_leaves, binds_still}
+use Rattle.si_changes.proofs.RenumberLaws.{renumbered_legal, renumbered_stored, renumbered_leaves, leaves_stay, binds_still}
 use Rattle.si_tree.specs.declared.node.Content.{Content}
 use Rattle.si_tree.specs.declared.node.Content.TheVariants.{Fork, Inner, One, Many}
 use Rattle.si_tree.specs.declared.node.Head.{Head}
@@ -254,6 +254,7 @@ module _ (old : Inside) (kept : IsKept old) (r : Renumbering) (h : IsRenumbering
         few = few_next (tree_of old) (tree_of (renumbered_inside old r)) kept.legal is_renumbered;
         stays = renumbered_stored (tree_of old) (tree_of (renumbered_inside old r)) kept.legal is_renumbered;
         keeps = renumbered_leaves (tree_of old) (tree_of (renumbered_inside old r)) kept.legal is_renumbered;
+        leaves = λ key t postings l. (leaves_stay (tree_of old) (tree_of (renumbered_inside old r)) kept.legal is_renumbered key t postings).0 l;
         counts = λ i. record { nodes = nodes i; leaves = leaves i; unmerged = unmerged i };
       }
 

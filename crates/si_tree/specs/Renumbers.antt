@@ -6,8 +6,9 @@ use Rattle.si_defs.specs.Substitutions.{IsAmong, AreDistinct}
 use Rattle.si_defs.specs.declared.TheConstants.{MOST_OCCURRENCES}
 use Rattle.si_flat.specs.Cells.{Term}
 use Rattle.si_flat.specs.Rows.{CellPair, AreWhole}
+use Rattle.si_legal.specs.declared.Posting.{Posting}
 use Rattle.si_legal.specs.Renumbering.{IsRenumbered}
-use Rattle.si_legal.specs.Trees.{inner, leaf, Node, Tree, HasNode, Path, IsPath, opened}
+use Rattle.si_legal.specs.Trees.{inner, leaf, Node, Tree, HasNode, Path, IsPath, opened, IsLeaf}
 use Rattle.si_legal.specs.Trees as trees
 use Rattle.si_legal.specs.StoredSets.{StaysStored, KeepsLeaves}
 use Rattle.si_changes.specs.Places.{renumbered_node}
@@ -99,4 +100,6 @@ pub record Renumbers (old new : Tree Term) : Type 0 where
   pub few : new.next ≤ MOST_OCCURRENCES
   pub stays : StaysStored old new
   pub keeps : KeepsLeaves old new
+  pub leaves : (key : ℕ) (t : Term) (postings : List Posting) → IsLeaf old key t postings
+      → IsLeaf new key t postings
   pub counts : counts_of new ≡ counts_of old

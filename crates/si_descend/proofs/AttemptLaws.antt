@@ -1,5 +1,5 @@
 -- Which children of a node were tried, place by place, and that the others are closed.
-use Rattle.std.proofs.Common.{◌≡◌, ◌⊎◌, inl, inr, ℕ, zero, suc, ◌+◌, ◌-◌, ◌<◌, ◌≤◌, List, [], ◌∷◌, ◌++◌, Option, None, Some, length, slice_get, refl, ap, sym, ◌∙◌, subst, arith}
+use Rattle.std.proofs.Common.{◌≡◌, ◌⊎◌, inl, inr, ℕ, zero, suc, ◌+◌, ◌-◌, ◌^◌, ◌<◌, ◌≤◌, List, [], ◌∷◌, ◌++◌, Option, None, Some, length, slice_get, refl, ap, sym, ◌∙◌, subst, arith}
 use Rattle.std.specs.Prelude.{Vec, vec_capacity}
 use Rattle.std.specs.Borrow.{Bor}
 use Rattle.std.specs.List.{AllByRecursion}
@@ -20,7 +20,8 @@ use Rattle.si_changes.proofs.HeadLaws.{same_head_self, no_common_head}
 use Rattle.si_changes.proofs.Frames.{legal_nodes, differ_told}
 use Rattle.si_tree.specs.declared.node.Head.{Head}
 use Rattle.si_tree.specs.declared.node.Head.TheVariants.{Var}
-use Rattle.si_tree.specs.Heads.{HeadsAt, IsChildBy}
+use Rattle.si_tree.specs.Heads.{HasHead, HeadsAt, IsChildBy}
+use Rattle.si_tree.specs.KeptNodes.{AreKnown}
 use Rattle.si_tree.specs.Reading.{AtNode, split_of, children_of}
 use Rattle.si_tree.proofs.HeadLaws.{heads_same}
 use Rattle.si_tree.proofs.ChildLaws.{same_split, same_children, same_head_at}
@@ -65,17 +66,17 @@ some_index (y ∷ xs) x (inl e) = (0, omega arith, ap Some e)
 some_index (y ∷ xs) x (inr a) = let rest = some_index xs x a in (suc rest.0, omega (arith, rest.1), rest.2)
 
 -- what is bound to the split has a head that can be looked up
-headed : (tree : Tree Term) (t : Term) → (IsIndicator t → ⊥) → ((x : Variable) → IsAmong (terms.variables t) x → IsWithin tree x) → HasHeadBelow tree.vars t
-headed tree (terms.app s ts) bare within = tt
-headed tree (terms.var (query n)) bare within = within (query n) (inl refl)
-headed tree (terms.var (entry n)) bare within = within (entry n) (inl refl)
-headed tree (terms.var (ind n)) bare within = bare tt
+headed : (tree : Tree Term) (vars : ℕ) (t : Term) → (IsIndicator t → ⊥) → ((x : Variable) → IsAmong (terms.variables t) x → IsWithin tree x) → ((n : ℕ) → t ≡ terms.var (entry n) → n < vars) → HasHeadBelow vars t
+headed tree vars (terms.app s ts) bare within below = tt
+headed tree vars (terms.var (query n)) bare within below = absurd (within (query n) (inl refl))
+headed tree vars (terms.var (entry n)) bare within below = below n refl
+headed tree vars (terms.var (ind n)) bare within below = absurd (bare tt)
 
 module _ (search : Search) (ready : IsReady search) (key : ℕ) (node : Node Term) (has : HasNode search.tree.now key node) where
   -- ---- all children in order
-  pub all_in_order : (children : Bor (List ℕ)) (w : Option Wanted) (pairs : Pairs) → AtNode search.tree.now key (λ n. children.now ≡ children_of n.content) → IsWanted search key pairs w → AreAttempts search key (InOrder (record { children = children; wanted = w }))
-  all_in_order children w pairs are wanted = record {
-    places = are;
+  pub all_in_order : (children : Bor (List ℕ)) (heads : Bor (List Head)) (w : Option Wanted) (pairs : Pairs) → AtNode search.tree.now key (λ n. children.now ≡ children_of n.content) → AtNode search.tree.now key (λ n. AreKnown search.tree.now n.content heads.now) → IsWanted search key pairs w → AreAttempts search key (InOrder (record { children = children; heads = heads; wanted = w }))
+  all_in_order children heads w pairs are known wanted = record {
+    places = λ n there. (are n there, known n there);
     splits = splits w wanted;
     one = λ i j child p q e f. one_index children.now i j child distinct e f;
     all = λ n there child a. inl (some_index children.now child (subst (λ l. IsAmong l child) (sym (are n there)) a));
@@ -88,11 +89,12 @@ module _ (search : Search) (ready : IsReady search) (key : ℕ) (node : Node Ter
     distinct = subst AreDistinct (sym (are node has)) (siblings search ready key node has).distinct
 
   -- ---- by heads
-  child_headed : (child split : ℕ) (t : Term) → ChildBinds search.tree.now child split t → HasHeadBelow search.tree.now.vars t
-  child_headed child split t (n, there, binds) =
+  child_headed : (vars child split : ℕ) (t : Term) → ((number : ℕ) → HeadsAt search.tree.now split child (Var number) → number < vars) → ChildBinds search.tree.now child split t → HasHeadBelow vars t
+  child_headed vars child split t below (n, there, binds) =
       let legal = (ready.legal.nodes child n there).binds in
-      headed search.tree.now t (all_at (λ b. IsIndicator b.1 → ⊥) n.bindings (split, t) legal.rights binds)
+      headed search.tree.now vars t (all_at (λ b. IsIndicator b.1 → ⊥) n.bindings (split, t) legal.rights binds)
       (λ x a. all_at (IsWithin search.tree.now) (terms.variables t) x (all_at (λ b. AllByRecursion (IsWithin search.tree.now) (terms.variables b.1)) n.bindings (split, t) legal.within binds) a)
+      (λ number is. below number (t, (n, there, binds), subst (λ u. HasHead u (Var number)) (sym is) refl))
 
   -- two children with one head are the same
   one_by_head : (h : Head) (child c : ℕ) → IsChildBy search.tree.now key h child → IsChildBy search.tree.now key h c → child ≡ c
@@ -107,9 +109,9 @@ module _ (search : Search) (ready : IsReady search) (key : ℕ) (node : Node Ter
   ]
 
   -- a child binds the split to a term that has a head, or isn't open
-  pub by_heads : (w : Wanted) (end : ℕ) → AtNode search.tree.now key (λ n. split_of n.content ≡ Some w.split) → AreHeadsFor search.relation search.slots search.tree.now.vars w.first end → AreAttempts search key (ByHeads (record { wanted = w; end = end }))
-  by_heads w end splits heads = record {
-    places = omega (arith, heads.few, ready.legal.few_variables);
+  pub by_heads : (w : Wanted) (vars end : ℕ) → vars ≤ 2 ^ 32 → ((child number : ℕ) → IsChildBy search.tree.now key (Var number) child → number < vars) → AtNode search.tree.now key (λ n. split_of n.content ≡ Some w.split) → AreHeadsFor search.relation search.slots vars w.first end → AreAttempts search key (ByHeads (record { wanted = w; end = end }))
+  by_heads w vars end few below splits heads = record {
+    places = omega (arith, heads.few, few);
     splits = splits;
     one = λ i j child p q e f. heads.one i j e.0 p q e.1 (f.1 ∙ ap Some (sym (same_child child e.0 f.0 e.2 f.2)));
     all = λ n there child a. found child (subst (λ l. IsAmong l child) (ap (λ m. children_of m.content) (one_node search.tree.now key n node there has)) a);
@@ -127,22 +129,15 @@ module _ (search : Search) (ready : IsReady search) (key : ℕ) (node : Node Ter
           let legal = subst (IsLegalContent search.tree.now key ((key, node) ∷ (ready.legal.nodes key node has).above)) is (ready.legal.nodes key node has).content in
           let bound = (differ_told search.tree.now split cs (legal_nodes search.tree.now ready.legal) legal.2).each child a in
           let same : split ≡ w.split = same_Some split w.split (sym (ap split_of is) ∙ splits node has) in
-          elim (heads.all bound.0 (child_headed child split bound.0 bound.1)) as (λ _. IsTriedBefore search key (ByHeads (record { wanted = w; end = end })) end child ⊎ RulesOut search (Some w) child) [
+          let stands : (h : Head) → HeadsAt search.tree.now split child h → IsChildBy search.tree.now key h child = λ h by. record { node = node; split = split; children = cs; has = has; content = is; among = a; by = by } in
+          elim (heads.all bound.0 (child_headed vars child split bound.0 (λ number by. below child number (stands (Var number) by)) bound.1)) as (λ _. IsTriedBefore search key (ByHeads (record { wanted = w; end = end })) end child ⊎ RulesOut search (Some w) child) [
             | inl p ↦ inl (
               p.0,
               p.1,
               (
                 p.2.0,
                 p.2.1,
-                record {
-                  node = node;
-                  split = split;
-                  children = cs;
-                  has = has;
-                  content = is;
-                  among = a;
-                  by = (bound.0, bound.1, p.2.2);
-                },
+                stands p.2.0 (bound.0, bound.1, p.2.2),
               ),
             )
             | inr c ↦ inr (bound.0, subst (λ n. ChildBinds search.tree.now child n bound.0) same bound.1, c)
@@ -154,7 +149,7 @@ module _ (search : Search) (ready : IsReady search) (key : ℕ) (node : Node Ter
     pub tried_among : (place child : ℕ) → IsTried search key a place child → IsAmong (children_of node.content) child
     tried_among place child = by a are.places where
       by : (b : Attempts) → HasPlaces search key b → IsTried search key b place child → IsAmong (children_of node.content) child
-      by (InOrder siblings) there e = subst (λ l. IsAmong l child) (there node has) (get_among siblings.children.now place child e)
+      by (InOrder siblings) there e = subst (λ l. IsAmong l child) (there node has).0 (get_among siblings.children.now place child e)
       by (ByHeads heads) few (h, e, c) = subst (λ l. IsAmong l child) (ap children_of (sym c.content ∙ ap (λ n. n.content) (one_node search.tree.now key c.node node c.has has))) c.among
 
     pub tried_child : (place child : ℕ) → IsTried search key a place child → IsChildOf search.tree.now key child

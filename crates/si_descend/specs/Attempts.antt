@@ -9,6 +9,7 @@ use Rattle.si_unify.specs.declared.slots.Slots.{Slots}
 use Rattle.si_tree.specs.declared.node.Head.{Head}
 use Rattle.si_tree.specs.declared.node.Head.TheVariants.{Var}
 use Rattle.si_tree.specs.Heads.{HasHead, IsChildBy}
+use Rattle.si_tree.specs.KeptNodes.{AreKnown}
 use Rattle.si_tree.specs.Reading.{AtNode, children_of}
 use Rattle.si_tree.specs.Rights.{cell_head}
 use Rattle.si_descend.specs.declared.attempts.Attempts.{Attempts}
@@ -61,11 +62,12 @@ abbrev pub place_count : Attempts → ℕ
 place_count (InOrder siblings) = length siblings.children.now
 place_count (ByHeads heads) = heads.end
 
--- a slice has all children, and heads have so many places at most
+-- slices have all children and their heads, and heads to look up have so many places at most
 abbrev pub HasPlaces : Search → ℕ → Attempts → Type 0
 HasPlaces search key (InOrder siblings) =
-    AtNode search.tree.now key (λ n. siblings.children.now ≡ children_of n.content)
-HasPlaces search key (ByHeads heads) = heads.end ≤ 2 ^ 32
+    AtNode search.tree.now key (λ n. (siblings.children.now ≡ children_of n.content)
+    × AreKnown search.tree.now n.content siblings.heads.now)
+HasPlaces search key (ByHeads heads) = heads.end ≤ 1 + 2 ^ 32
 
 abbrev pub IsTriedBefore : Search → ℕ → Attempts → ℕ → ℕ → Type 0
 IsTriedBefore search key a end child =

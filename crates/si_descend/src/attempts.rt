@@ -16,6 +16,9 @@ use si_trail::Trail;
 use si_tree::{Head, NodeId, head_of};
 use si_unify::Slots;
 
+// So few children are tried in order.
+const FEW_CHILDREN: usize = 16;
+
 /// Which children of a node are tried.
 #[derive(Clone, Copy)]
 pub(crate) enum Attempts<'a> {
@@ -25,10 +28,11 @@ pub(crate) enum Attempts<'a> {
     ByHeads(Lookup),
 }
 
-/// All children of a node, and what is wanted of them.
+/// All children of a node, their heads in the same order, and what is wanted of them.
 #[derive(Clone, Copy)]
 pub(crate) struct Siblings<'a> {
     pub(crate) children: &'a [NodeId],
+    pub(crate) heads: &'a [Head],
     wanted: Option<Wanted>,
 }
 
@@ -41,8 +45,8 @@ pub(crate) struct Lookup {
     pub(crate) end: usize,
 }
 
-/// What is tried below a node. Where it has more children than there are heads that can meet what
-/// is wanted, they are looked up by these heads.
+/// What is tried below a node. Where it has many children, and more than there are heads that can
+/// meet what is wanted, they are looked up by these heads.
 #[inline(always)]
 pub(crate) fn attempts_at<'a>(
     search: &Search<'a>,
@@ -57,11 +61,19 @@ pub(crate) fn attempts_at<'a>(
 {
     let wanted = asked_of(search, node, trail);
     let children = search.tree.children(node);
-    let vars = search.tree.vars();
-    let all = Attempts::InOrder(Siblings { children, wanted });
+    let heads = search.tree.heads(node);
+    let all = Attempts::InOrder(Siblings {
+        children,
+        heads,
+        wanted,
+    });
+    if children.len() <= FEW_CHILDREN {
+        return all;
+    }
     let Some(asked) = wanted else {
         return all;
     };
+    let vars = search.tree.head_vars(node);
     let Some(end) = heads_for(search.relation, &search.slots, vars, asked.first) else {
         return all;
     };
@@ -72,12 +84,13 @@ pub(crate) fn attempts_at<'a>(
 }
 
 // How many heads can meet a term that begins with this cell, if not all can: its own, and where
-// these can be bound, the variables of an entry.
+// these can be bound, the variables of an entry with numbers below this one.
 #[inline(always)]
-fn heads_for(relation: Relation, slots: &Slots, vars: u32, first: Cell) -> Option<usize>
+fn heads_for(relation: Relation, slots: &Slots, vars: usize, first: Cell) -> Option<usize>
+    requires { vars ≤ 2 ^ 32 }
     ensures { IfSome result (AreHeadsFor relation slots.now vars first) }
 {
-    let all = 1 + vars as usize;
+    let all = 1 + vars;
     match first {
         Cell::App { .. } => Some(if keeps_variables(relation, slots) {
             1
@@ -106,7 +119,7 @@ pub(crate) fn child_in_order(
         → IsTried search.now node (InOrder siblings.entry) place child
         → RulesOut search.now siblings.entry.wanted child) }
 {
-    if is_unwanted(search, siblings.wanted, search.tree.head(node, place)) {
+    if is_unwanted(search, siblings.wanted, siblings.heads[place]) {
         return None;
     }
     Some(siblings.children[place])

@@ -51,14 +51,15 @@ by_head tree key node split heads children head has content are child (place, h,
       by = found.1;
     }
 
-pub none_by_head : (tree : Tree Term) (key : ℕ) (node : Node Term) (split : ℕ) (heads : List Head) (children : List ℕ) (head : Head) → IsLegal tree → HasNode tree key node → node.content ≡ inner split children → AreHeadsOf tree split heads children → (IsAmong heads head → ⊥) → (child : ℕ) → IsChildBy tree key head child → ⊥
-none_by_head tree key node split heads children head legal has content are none child by =
+-- the head of a child stands among them
+pub among_by_head : (tree : Tree Term) (key : ℕ) (node : Node Term) (split : ℕ) (heads : List Head) (children : List ℕ) (head : Head) → IsLegal tree → HasNode tree key node → node.content ≡ inner split children → AreHeadsOf tree split heads children → (child : ℕ) → IsChildBy tree key head child → IsAmong heads head
+among_by_head tree key node split heads children head legal has content are child by =
     let same : node ≡ by.node = one_node tree key node by.node has by.has in
     let contents : inner split children ≡ inner by.split by.children = sym content ∙ ap (λ n. n.content) same ∙ by.content in
     let among : IsAmong children child = subst (λ cs. IsAmong cs child) (sym (same_children split by.split children by.children contents)) by.among in
     let found = head_of_child tree split heads children child are among in
     let there = subst (λ n. HeadsAt tree n child head) (sym (same_split split by.split children by.children contents)) by.by in
-    none (subst (λ h. IsAmong heads h) (same_head_at tree split child found.0 head legal found.2 there) (get_among heads found.1.0 found.0 found.1.1))
+    subst (λ h. IsAmong heads h) (same_head_at tree split child found.0 head legal found.2 there) (get_among heads found.1.0 found.0 found.1.1)
 
 -- a leaf has no child
 pub none_at_leaf : (tree : Tree Term) (key : ℕ) (node : Node Term) (postings : List Posting) (head : Head) → HasNode tree key node → node.content ≡ leaf postings → (child : ℕ) → IsChildBy tree key head child → ⊥

@@ -11,7 +11,7 @@ use Rattle.si_tree.specs.Heads.{IsChildBy}
 use Rattle.si_tree.specs.KeptNodes.{AreKnown}
 use Rattle.si_tree.specs.Reading.{children_of}
 use Rattle.si_tree.proofs.HeadLaws.{as_many}
-use Rattle.si_tree.proofs.ChildLaws.{by_head, none_by_head, none_at_leaf}
+use Rattle.si_tree.proofs.ChildLaws.{by_head, among_by_head, none_at_leaf}
 
 -- a place among the children is one among the heads
 pub as_many_known : (tree : Tree Term) (content : Content) (heads : List Head) (place : ℕ) → AreKnown tree content heads → place < length (children_of content) → place < length heads
@@ -35,9 +35,9 @@ module _ (tree : Tree Term) (key : ℕ) (node : Node Term) (heads : List Head) (
       differ : slice_get [] place ≡ Some child → ⊥
       differ e = cc
 
-  -- without the head there is no such child
-  pub known_none : (head : Head) → IsLegal tree → (IsAmong heads head → ⊥) → (child : ℕ) → IsChildBy tree key head child → ⊥
-  known_none head legal none child = by node.content refl known where
-    by : (c : Content) → node.content ≡ c → AreKnown tree c heads → IsChildBy tree key head child → ⊥
-    by (inner split children) is are = none_by_head tree key node split heads children head legal has is are none child
-    by (leaf postings) is are = none_at_leaf tree key node postings head has is child
+  -- the head of a child is known
+  pub known_among : (head : Head) → IsLegal tree → (child : ℕ) → IsChildBy tree key head child → IsAmong heads head
+  known_among head legal child stands = by node.content refl known where
+    by : (c : Content) → node.content ≡ c → AreKnown tree c heads → IsAmong heads head
+    by (inner split children) is are = among_by_head tree key node split heads children head legal has is are child stands
+    by (leaf postings) is are = absurd (none_at_leaf tree key node postings head has is child stands)

@@ -3,6 +3,7 @@ pub mod SlotLaws
 pub mod CountLaws
 pub mod HeadLaws
 pub mod HeadPlaces
+pub mod HeadBounds
 pub mod ChildLaws
 pub mod KnownHeads
 pub mod ChildPlaces

@@ -2,6 +2,7 @@ pub mod Decoding
 pub mod Codes
 pub mod Heads
 pub mod Forks
+pub mod HashedHeads
 pub mod KeptHeads
 pub mod NewTrees
 pub mod Reading

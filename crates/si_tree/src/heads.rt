@@ -1,12 +1,12 @@
 // The heads of a node's children.
-ghost use Rattle.std.specs.Prelude.{◌≡◌, ◌<◌, [], ◌∷◌, ◌++◌, IfOk, IfSome, IfNone, OnOk, Some, length, slice_get};
+ghost use Rattle.std.specs.Prelude.{◌≡◌, ◌≤◌, ◌^◌, [], ◌∷◌, ◌++◌, IfOk, IfSome, IfNone, OnOk, Some, slice_get};
 ghost use Rattle.std.specs.List.{swap_remove};
-ghost use Rattle.indexmap.specs.IndexSet.{spare};
 ghost use Rattle.si_defs.specs.Substitutions.{AreDistinct, IsAmong};
+ghost use Rattle.si_tree.specs.HashedHeads.{AreVariablesBelow};
 ghost use Rattle.si_tree.specs.KeptHeads.{heads_in, HasRoomForHead};
 
+use crate::hashed::{HashedHeads, beyond_variables};
 use crate::node::Head;
-use indexmap::IndexSet;
 use std::alloc::{AllocError, Global};
 
 // So many heads are compared one by one.
@@ -19,7 +19,7 @@ pub(crate) const FIRST_ROOM: usize = 4;
 #[derive(Drop)]
 pub(crate) enum Heads {
     Few(Vec<Head>),
-    Many(Box<IndexSet<Head>>),
+    Many(Box<HashedHeads>),
 }
 
 impl Heads {
@@ -52,9 +52,9 @@ impl Heads {
                 if heads.len() < MOST_COMPARED {
                     return heads.reserve(1);
                 }
-                hashed(alloc, heads.as_slice())?
+                HashedHeads::of(alloc, heads.as_slice())?
             }
-            Heads::Many(heads) => return heads.reserve(1),
+            Heads::Many(heads) => return heads.reserve(),
         };
         *self = Heads::Many(Box::new(alloc, hashed)?);
         Ok(())
@@ -68,20 +68,28 @@ impl Heads {
     {
         match self {
             Heads::Few(heads) => heads.push_reserved(head),
-            Heads::Many(heads) => {
-                heads.insert(head).unwrap();
-            }
+            Heads::Many(heads) => heads.push(head),
         }
     }
 
-    /// The head at this place.
-    pub(crate) fn at(&self, place: usize) -> Head
-        requires { place < length (heads_in self.now) }
-        ensures { slice_get (heads_in self.now) place ≡ Some result }
+    /// The heads, in order.
+    pub(crate) fn as_slice(&self) -> &[Head]
+        ensures { result.now ≡ heads_in self.now }
     {
         match self {
-            Heads::Few(heads) => heads[place],
-            Heads::Many(heads) => heads.as_slice()[place],
+            Heads::Few(heads) => heads.as_slice(),
+            Heads::Many(heads) => heads.as_slice(),
+        }
+    }
+
+    /// A number above those of all variables among the heads: the least, where they are few.
+    pub(crate) fn vars(&self) -> usize
+        ensures below { AreVariablesBelow result (heads_in self.now) }
+        ensures few { result ≤ 2 ^ 32 }
+    {
+        match self {
+            Heads::Few(heads) => beyond_variables(heads.as_slice()),
+            Heads::Many(heads) => heads.vars(),
         }
     }
 
@@ -92,7 +100,7 @@ impl Heads {
     {
         match self {
             Heads::Few(heads) => place_in(heads.as_slice(), head),
-            Heads::Many(heads) => heads.get_index_of(&head),
+            Heads::Many(heads) => heads.place(head),
         }
     }
 
@@ -109,26 +117,10 @@ impl Heads {
             Heads::Few(heads) => {
                 heads.swap_remove(place);
             }
-            Heads::Many(heads) => {
-                heads.swap_remove_index(place);
-            }
+            Heads::Many(heads) => heads.swap_remove(place),
         }
         place
     }
-}
-
-// These heads, hashed, and room for another.
-fn hashed(alloc: Global, heads: &[Head]) -> Result<IndexSet<Head>, AllocError>
-    requires { AreDistinct heads.now }
-    ensures same { IfOk result (λ set. set.keys ≡ heads.now) }
-    ensures room { IfOk result (λ set. 0 < spare set) }
-{
-    let mut set = IndexSet::with_capacity(alloc, heads.len() + 1)?;
-    for head in heads {
-        set.insert(*head)?;
-    }
-    set.reserve(1)?;
-    Ok(set)
 }
 
 /// The first place of a head.

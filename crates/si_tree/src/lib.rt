@@ -3,6 +3,7 @@
 
 mod dropping;
 mod fork;
+mod hashed;
 mod heads;
 mod node;
 mod numbers;

@@ -1,10 +1,11 @@
 // The nodes of a tree.
-ghost use Rattle.std.specs.Prelude.{◌≡◌, ◌<◌, IfOk, ◌++◌, ◌∷◌, OnOk, OnErr, [], IfSome, IfNone, length, ℕ, IsPermutation, Some, slice_get};
+ghost use Rattle.std.specs.Prelude.{◌≡◌, ◌≤◌, ◌^◌, IfOk, ◌++◌, ◌∷◌, OnOk, OnErr, [], IfSome, IfNone, length, ℕ, IsPermutation, Some, slice_get};
 ghost use Rattle.si_defs.specs.Substitutions.{AreDistinct, IsAmong};
 ghost use Rattle.si_flat.specs.Rows.{left_sides};
 ghost use Rattle.si_legal.specs.Trees.{leaf};
 ghost use Rattle.si_legal.specs.Counts.{unmerged_of};
 ghost use Rattle.si_tree.specs.Forks.{fork_children, fork_heads, fork_split};
+ghost use Rattle.si_tree.specs.HashedHeads.{AreVariablesBelow};
 ghost use Rattle.si_tree.specs.KeptHeads.{heads_in};
 ghost use Rattle.si_tree.specs.KeptNodes.{content_of, heads_of, moved_below, GainsChild, HasChildBy, RelinksChild, HasRoomForChild, HaveRoom, IsFork, IsInnerNode, IsLeafWith, IsLeafNode, IsSameBut, IsSameNode, postings_in};
 ghost use Rattle.si_tree.specs.Changes.{IsWithout};
@@ -14,6 +15,7 @@ ghost use Rattle.si_tree.specs.Renumbers.{with_split};
 ghost use Rattle.si_tree.specs.Slots.{standing};
 
 use crate::fork::Fork;
+use crate::hashed::beyond_variables;
 use crate::heads::{FIRST_ROOM, Heads, place_in};
 use crate::postings::{PostingList, Postings, Slot};
 use crate::rights::joined;
@@ -165,16 +167,28 @@ impl Content {
         }
     }
 
-    /// The head of the child at this place.
-    pub(crate) fn head(&self, place: usize) -> Head
-        requires { place < length (heads_of self.now) }
-        ensures { slice_get (heads_of self.now) place ≡ Some result }
+    /// The heads of the children. A leaf has none.
+    pub(crate) fn heads(&self) -> &[Head]
+        ensures { result.now ≡ heads_of self.now }
     {
         match self {
-            Content::Fork(fork) => fork.heads()[place],
-            Content::Inner(branches) => branches.heads.at(place),
-            Content::One(_) => unreachable!(),
-            Content::Many(_) => unreachable!(),
+            Content::Fork(fork) => fork.heads(),
+            Content::Inner(branches) => branches.heads.as_slice(),
+            Content::One(_) => Default::default(),
+            Content::Many(_) => Default::default(),
+        }
+    }
+
+    /// A number above those of all variables among the heads.
+    pub(crate) fn head_vars(&self) -> usize
+        ensures below { AreVariablesBelow result (heads_of self.now) }
+        ensures few { result ≤ 2 ^ 32 }
+    {
+        match self {
+            Content::Fork(fork) => beyond_variables(fork.heads()),
+            Content::Inner(branches) => branches.heads.vars(),
+            Content::One(_) => 0,
+            Content::Many(_) => 0,
         }
     }
 

@@ -4,8 +4,9 @@ ghost use Rattle.slab.specs.Slab.{HasRoomFor};
 ghost use Rattle.si_flat.specs.Rows.{AreWhole};
 ghost use Rattle.si_legal.specs.Bindings.{StandForBindings};
 ghost use Rattle.si_legal.specs.Legal.{IsLegal};
+ghost use Rattle.si_tree.specs.declared.node.Head.TheVariants.{Var};
 ghost use Rattle.si_tree.specs.NewTrees.{IsRootAlone};
-ghost use Rattle.si_tree.specs.KeptNodes.{HasRoomBelow, HaveShortKeys, IsInnerAt, IsPutBetween, MayPutBetween, StaySame};
+ghost use Rattle.si_tree.specs.KeptNodes.{AreKnown, HasRoomBelow, HaveShortKeys, IsInnerAt, IsPutBetween, MayPutBetween, StaySame};
 ghost use Rattle.si_tree.specs.Changes.{AreWholeParts, HasNewLeaf, HasSplitLeaf, parts_of, MayAddPosting, AddsPosting, HasPosting, DropsPosting};
 ghost use Rattle.si_changes.specs.Leaves.{MayAddLeaf};
 ghost use Rattle.si_changes.specs.Splits.{MaySplitNode};
@@ -141,15 +142,23 @@ impl Tree {
         self.nodes[node.key as usize].content.children()
     }
 
-    /// The head of the node's child at this place.
-    pub fn head(&self, node: NodeId, place: usize) -> Head
-        requires node { IsNode self.now node }
-        requires within { AtNode self.now node (λ n. place < length (children_of n.content)) }
-        ensures { (child : ℕ)
-            → AtNode self.now node (λ n. slice_get (children_of n.content) place ≡ Some child)
-            → IsChildBy self.now node result child }
+    /// The heads of the node's children, in the same order. A leaf has none.
+    pub fn heads(&self, node: NodeId) -> &[Head]
+        requires { IsNode self.now node }
+        ensures { AtNode self.now node (λ n. AreKnown self.now n.content result.now) }
     {
-        self.nodes[node.key as usize].content.head(place)
+        self.nodes[node.key as usize].content.heads()
+    }
+
+    /// A number above those of all variables that are heads of the node's children. Where these
+    /// were many once, it needn't be the least.
+    pub fn head_vars(&self, node: NodeId) -> usize
+        requires { IsNode self.now node }
+        ensures below { (child number : ℕ) → IsChildBy self.now node (Var number) child
+            → number < result }
+        ensures few { result ≤ 2 ^ 32 }
+    {
+        self.nodes[node.key as usize].content.head_vars()
     }
 
     /// The postings of a leaf. Another node has none.

@@ -4,7 +4,7 @@ use Rattle.slab.specs.Slab.{get}
 use Rattle.si_tree.specs.Heads.{IsChildBy}
 use Rattle.si_tree.specs.KeptNodes.{node_of, content_of, heads_of, tree_of}
 use Rattle.si_tree.proofs.SlotLaws.{node_read}
-use Rattle.si_tree.proofs.KnownHeads.{place_known, known_child, known_none}
+use Rattle.si_tree.proofs.KnownHeads.{place_known, known_child, known_among}
 use Rattle.si_tree.proofs.tree.Tree.child.Goals as goal
 
 pub returns-in_err-place-clause-none : goal.returns-in_err-place-clause-none
@@ -13,7 +13,7 @@ returns-in_err-place-clause-none c =
     let got = subst (λ k. get c.self.inside.nodes k ≡ Some n) c.node.view_is c.index.ensures in
     let has = node_read c.self.inside.nodes.slots c.args.node n got in
     subst (λ r. IfNone r ((child : ℕ) → IsChildBy c.args.self.now c.args.node c.args.head child → ⊥)) (sym c.from_residual.ensures)
-    (λ child by. known_none (tree_of c.self.inside) c.args.node (node_of n) (heads_of n.content) has (c.self.invariant.heads _ _ c.index.ensures) c.args.head c.self.invariant.legal c.in_err-place.ensures.none child (subst (λ t. IsChildBy t c.args.node c.args.head child) (sym c.self.view_is) by))
+    (λ child by. c.in_err-place.ensures.none (known_among (tree_of c.self.inside) c.args.node (node_of n) (heads_of n.content) has (c.self.invariant.heads _ _ c.index.ensures) c.args.head c.self.invariant.legal child (subst (λ t. IsChildBy t c.args.node c.args.head child) (sym c.self.view_is) by)))
 
 pub bounds-children-place : goal.bounds-children-place
 bounds-children-place c =

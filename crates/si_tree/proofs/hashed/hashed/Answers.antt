@@ -1,5 +1,5 @@
 use Rattle.si_tree.proofs.HeadPlaces.{one_more}
-use Rattle.si_tree.proofs.heads.hashed.Goals as goal
+use Rattle.si_tree.proofs.hashed.hashed.Goals as goal
 
 pub loop-head-preserved : goal.loop-head-preserved
 loop-head-preserved c =

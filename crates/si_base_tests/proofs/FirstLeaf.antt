@@ -1,5 +1,5 @@
 -- The first leaf of a tree, and its postings, as the tests want them.
-use Rattle.std.proofs.Common.{◌≡◌, ◌≢◌, ◌++◌, ℕ, List, [], ◌∷◌, inl, inr, refl, sym, ◌∙◌, ap, subst, arith}
+use Rattle.std.proofs.Common.{◌≡◌, ◌≢◌, ◌<◌, ◌++◌, ℕ, List, [], ◌∷◌, length, inl, inr, refl, sym, ◌∙◌, ap, subst, arith, length-append}
 use Rattle.std.proofs.lemmas.Bool.{cases_eq}
 use Rattle.si_defs.specs.Terms as terms
 use Rattle.si_defs.specs.Substitutions.{IsAmong}
@@ -14,7 +14,7 @@ use Rattle.si_changes.specs.Nodes.{leaf_below, with_content}
 use Rattle.si_changes.specs.Leaves.{MayAddLeaf}
 use Rattle.si_tree.specs.NewTrees.{bare_root, IsRootAlone}
 use Rattle.si_tree.specs.Decoding.{bindings_of}
-use Rattle.si_tree.specs.Reading.{postings_of, IsNode}
+use Rattle.si_tree.specs.Reading.{postings_of, AtNode, IsNode}
 use Rattle.si_tree.specs.Changes.{MayAddPosting, AddsPosting, HasPosting, DropsPosting, HasNewLeaf}
 use Rattle.si_tree.proofs.ChildLaws.{inner_no_leaf}
 use Rattle.si_tree.proofs.RootLaws.{only_bare, no_leaf}
@@ -101,6 +101,10 @@ module _ (old new : Tree Term) (parent key : ℕ) (bs : List Binding) (p : Posti
   has_first = record { node = leaf_now; postings = p ∷ []; has = has.adds.new_leaf; content = refl; among = inl refl }
 
 module _ (old new : Tree Term) (key : ℕ) (p : Posting) where
+  same_postings : {q : Posting} (had : HasPosting old key q) (adds : AddsPosting old new key p) → had.postings ≡ adds.postings
+  same_postings had adds =
+      ap postings_of (sym had.content ∙ ap (λ n. n.content) (one_node old key had.node adds.changes.node had.has adds.changes.had) ∙ adds.changes.content)
+
   pub has_added : AddsPosting old new key p → HasPosting new key p
   has_added adds = record {
     node = _;
@@ -110,16 +114,26 @@ module _ (old new : Tree Term) (key : ℕ) (p : Posting) where
     among = among_back adds.postings (p ∷ []) p (inl refl);
   }
 
+  pub node_added : AddsPosting old new key p → IsNode new key
+  node_added adds = (_, adds.changes.has)
+
+  pub two_added : (q : Posting) → HasPosting old key q → AddsPosting old new key p → (ps : List Posting) → AtNode new key (λ n. ps ≡ postings_of n.content) → 1 < length ps
+  two_added q had adds ps now = omega (arith, ap length (now _ adds.changes.has), length-append adds.postings (p ∷ []), some adds.postings among) where
+    among : IsAmong adds.postings q
+    among = subst (λ qs. IsAmong qs q) (same_postings had adds) had.among
+
+    some : (qs : List Posting) → IsAmong qs q → 0 < length qs
+    some [] a = absurd a
+    some (r ∷ rs) a = omega arith
+
   pub still_added : (q : Posting) → HasPosting old key q → AddsPosting old new key p → HasPosting new key q
   still_added q had adds = record {
     node = _;
     postings = adds.postings ++ p ∷ [];
     has = adds.changes.has;
     content = refl;
-    among = among_front adds.postings (p ∷ []) q (subst (λ ps. IsAmong ps q) same had.among);
-  } where
-    same : had.postings ≡ adds.postings
-    same = ap postings_of (sym had.content ∙ ap (λ n. n.content) (one_node old key had.node adds.changes.node had.has adds.changes.had) ∙ adds.changes.content)
+    among = among_front adds.postings (p ∷ []) q (subst (λ ps. IsAmong ps q) (same_postings had adds) had.among);
+  }
 
   pub still_dropped : (q : Posting) → p ≢ q → HasPosting old key q → DropsPosting old new key p → HasPosting new key q
   still_dropped q differ had drops = record {

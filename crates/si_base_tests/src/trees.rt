@@ -68,9 +68,10 @@ fn leaf_is_right(alloc: Global) -> Result<bool, AllocError> {
     let root = tree.root();
     let leaf = tree.add_leaf(root, bindings, FIRST)?;
     tree.add_posting(leaf, SECOND)?;
+    let second = tree.postings(leaf).at(1);
     tree.drop_posting(leaf, FIRST);
     tree.drop_posting(leaf, SECOND);
-    Ok(is_leaf_alone(&tree, leaf))
+    Ok(second == SECOND && is_leaf_alone(&tree, leaf))
 }
 
 fn is_leaf_alone(tree: &Tree, leaf: NodeId) -> bool

@@ -170,6 +170,34 @@ fn lists_of_tokens(rt: HostRuntime) -> Result<(), Fail> {
     Ok(())
 }
 
+/// A clause whose annotations are so many brackets, one within the other.
+fn annotated(alloc: Global, brackets: usize) -> Result<Vec<u8>, AllocError> {
+    let mut text = Vec::new(alloc);
+    text.extend_from_slice(b"cnf(a,b,c,")?;
+    for _ in 0..brackets {
+        text.push(b'(')?;
+    }
+    for _ in 0..brackets {
+        text.push(b')')?;
+    }
+    text.extend_from_slice(b").")?;
+    Ok(text)
+}
+
+// Annotations with 63 open brackets are left out, and those with 64 are kept.
+#[test]
+fn brackets_of_annotations(rt: HostRuntime) -> Result<(), Fail> {
+    let items = [
+        (63, (9, 0, 138, TokensEnd::FullStop)),
+        (64, (138, 0, 140, TokensEnd::FullStop)),
+    ];
+    for (brackets, due) in items {
+        let text = annotated(rt.alloc(), brackets)?;
+        assert_item(&rt, rt.alloc(), text.as_slice(), due)?;
+    }
+    Ok(())
+}
+
 /// The tokens of `X!=-3.`
 const SIDE_BY_SIDE: [(TokenKind, &[u8]); 4] = [
     (TokenKind::Upper, b"X"),

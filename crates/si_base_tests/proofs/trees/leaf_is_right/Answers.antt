@@ -1,6 +1,6 @@
 use Rattle.std.proofs.Common.{◌≢◌, arith, ap}
 use Rattle.si_legal.specs.declared.Posting.{Posting}
-use Rattle.si_base_tests.proofs.FirstLeaf.{is_whole, one_binding, are_whole, may_add, may_add_posting, has_first, has_added, still_added, still_dropped, node_dropped}
+use Rattle.si_base_tests.proofs.FirstLeaf.{is_whole, one_binding, are_whole, may_add, may_add_posting, has_first, has_added, node_added, two_added, still_added, still_dropped, node_dropped}
 use Rattle.si_base_tests.proofs.trees.leaf_is_right.Goals as goal
 
 abbrev first : Posting
@@ -24,6 +24,15 @@ add_leaf-requires-clause-may c =
 
 pub add_posting-requires : goal.add_posting-requires
 add_posting-requires c = may_add_posting _ _ _ _ _ first c.in_ok-tree.ensures c.in_ok-leaf.ensures.ok second differ
+
+pub postings-requires : goal.postings-requires
+postings-requires c = node_added _ _ _ second c.in_ok-add_posting.ensures.ok
+
+pub at-second-requires : goal.at-second-requires
+at-second-requires c =
+    two_added _ _ _ second first
+    (has_first _ _ _ _ _ first c.in_ok-tree.ensures c.in_ok-leaf.ensures.ok)
+    c.in_ok-add_posting.ensures.ok _ c.postings.ensures
 
 pub drop_posting-requires : goal.drop_posting-requires
 drop_posting-requires c =

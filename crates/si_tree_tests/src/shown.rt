@@ -1,36 +1,17 @@
-// An index of clauses.
+// What is shown of hits.
 ghost use Rattle.std.specs.Prelude.{◌<◌, length};
 ghost use Rattle.si_defs.specs.Clauses.{IsSoundPattern};
 ghost use Rattle.si_term.specs.Meaning.{pattern_of};
 
-use crate::stores::{assert_forgets, tell_calls};
+use crate::acts::{Trial, assert_trial, toggle};
 use si_defs::Relation;
-use si_index::{Found, Index, Stats};
+use si_index::{Found, Index};
 use si_parse::pattern::PatternKind;
 use si_term::Pattern;
 use si_texts::pattern_in;
 use std::alloc::{AllocError, Global};
 use std::process::Abort;
 use std::test::Fail;
-
-const KEPT: Stats = Stats {
-    clauses: 1,
-    entries: 2,
-    symbols: 2,
-};
-
-fn assert_keeps(rt: &impl Abort, alloc: Global, index: &mut Index) -> Result<(), AllocError> {
-    assert_forgets(rt, alloc, index)?;
-    assert_eq!(rt; index.stats(), KEPT);
-    Ok(())
-}
-
-#[test]
-fn indexes_forget(rt: HostRuntime) -> Result<(), Fail> {
-    let mut index = Index::new(rt.alloc(), 6)?;
-    assert_keeps(&rt, rt.alloc(), &mut index)?;
-    Ok(())
-}
 
 fn digit(number: usize) -> u8 {
     b'0' + (number % 10) as u8
@@ -79,29 +60,37 @@ fn tell_answers(
     tell_hits(index, relation, &pattern, page)
 }
 
+const CLAUSES: [&[u8]; 3] = [
+    b"cnf(n0,axiom,p(a)).",
+    b"cnf(n1,axiom,p(b)).",
+    b"cnf(n2,axiom,q(a)).",
+];
+
 const QUESTIONS: [(Relation, PatternKind, &[u8]); 2] = [
     (Relation::Instances, PatternKind::Lit, b"p(X)"),
     (Relation::Unifiable, PatternKind::Term, b"a"),
 ];
 
-/// What is found in an index of the clauses `p(a)`, `p(b)` and `q(a)`.
+/// What is found among the clauses.
 fn tell_questions(alloc: Global, index: &mut Index, page: &mut Vec<u8>) -> Result<(), AllocError> {
-    tell_calls(alloc, index, &[*b"+1pa", *b"+2pb", *b"+3qa"], page)?;
-    for question in QUESTIONS {
-        tell_answers(alloc, index, question, page)?;
+    for text in &CLAUSES {
+        toggle(alloc, index, text)?;
+    }
+    for question in &QUESTIONS {
+        tell_answers(alloc, index, *question, page)?;
     }
     Ok(())
 }
 
-fn tell_all(alloc: Global, page: &mut Vec<u8>) -> Result<(), AllocError> {
-    let mut index = Index::new(alloc, 6)?;
-    tell_questions(alloc, &mut index, page)
+pub fn assert_shown(rt: &impl Abort, alloc: Global, index: &mut Index) -> Result<(), AllocError> {
+    let mut page = Vec::new(alloc);
+    tell_questions(alloc, index, &mut page)?;
+    assert_eq!(rt; page.as_slice(), b"01111111.01002100.".as_slice());
+    Ok(())
 }
 
 #[test]
-fn entries_are_found(rt: HostRuntime) -> Result<(), Fail> {
-    let mut page = Vec::new(rt.alloc());
-    tell_all(rt.alloc(), &mut page)?;
-    assert_eq!(rt; page.as_slice(), b"22201111111.01002100.".as_slice());
+fn hits_have_their_lists(rt: HostRuntime) -> Result<(), Fail> {
+    assert_trial(&rt, rt.alloc(), Trial::Shown)?;
     Ok(())
 }

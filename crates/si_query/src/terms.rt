@@ -125,6 +125,7 @@ pub(crate) fn applied<'t, 'b, T: SymTable>(
 
 /// How many terms with commas between them stand at the front, and the tokens after them.
 #[cycle(reading)]
+#[inline(always)]
 fn arguments<'t, 'b, T: SymTable>(
     alloc: Global,
     table: &T,

@@ -1,3 +1,2 @@
-mod FirstLeaf
 mod Vectors
 mod Postings

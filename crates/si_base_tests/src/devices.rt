@@ -1,8 +1,7 @@
 ghost use Rattle.std.specs.Prelude.{⊤};
 
 use si_io::{
-    Disk, Failed, Fetched, Library, MemorySink, RealLibrary, RealSink, RealSource, Sink, Source,
-    write_all,
+    Disk, Failed, Fetched, Library, RealLibrary, RealSink, RealSource, Sink, Source, write_all,
 };
 use std::alloc::{AllocError, Global};
 use std::cell::Cell;
@@ -136,38 +135,6 @@ fn a_real_sink_hands_on_each_failure(rt: HostRuntime) {
     assert_eq!(rt; write_all(&mut sink, b"i"), Err(Failed));
     assert_eq!(rt; page.text.as_slice(), b"abcd\nefgh\n".as_slice());
     assert_eq!(rt; page.asked.as_slice(), b"wwwfwwfw".as_slice());
-}
-
-/// What a sink with this room and chunk, and a third call that fails, has after all of `text` was
-/// written.
-fn kept_of(
-    alloc: Global,
-    room: usize,
-    chunk: usize,
-    text: &[u8],
-) -> Result<(bool, Vec<u8>), AllocError> {
-    let mut sink = MemorySink::new(alloc, room, chunk, vec![in alloc; 3]?)?;
-    let all = write_all(&mut sink, text).is_ok();
-    Ok((all, sink.bytes().to_vec(alloc)?))
-}
-
-#[test]
-fn a_sink_in_memory_keeps_a_prefix(rt: HostRuntime) -> Result<(), Fail> {
-    let alloc = rt.alloc();
-    let rows: [(usize, usize, &[u8], bool, &[u8]); 6] = [
-        (8, 3, b"", true, b""),
-        (8, 3, b"abcdef", true, b"abcdef"),
-        (8, 3, b"abcdefg", false, b"abcdef"),
-        (6, 4, b"abcdef", true, b"abcdef"),
-        (5, 4, b"abcdef", false, b"abcd"),
-        (8, 0, b"abc", false, b"ab"),
-    ];
-    for (room, chunk, text, all, want) in rows {
-        let (done, kept) = kept_of(alloc, room, chunk, text)?;
-        assert_eq!(rt; done, all, "room {room}, chunk {chunk}");
-        assert_eq!(rt; kept.as_slice(), want, "room {room}, chunk {chunk}");
-    }
-    Ok(())
 }
 
 /// What a fetch answers, and what it leaves in place of other bytes.

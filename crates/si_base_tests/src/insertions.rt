@@ -5,13 +5,22 @@ ghost use Rattle.si_legal.specs.Legal.{IsLegal};
 ghost use Rattle.si_insert.specs.Inserting.{Inserts, MayInsert};
 
 use crate::generalizations::{A, B, C, G};
-use crate::trees::{FIRST, SECOND};
 use si_flat::{Cell, Flat};
 use si_insert::insert;
 use si_prune::remove;
 use si_tree::{NodeId, Posting, Tree};
 use std::alloc::{AllocError, Global};
 use std::test::Fail;
+
+const FIRST: Posting = Posting {
+    clause: 0,
+    entry: 0,
+};
+
+const SECOND: Posting = Posting {
+    clause: 1,
+    entry: 5,
+};
 
 const THIRD: Posting = Posting {
     clause: 2,

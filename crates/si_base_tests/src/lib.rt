@@ -9,12 +9,8 @@ mod generalizations;
 #[cfg(test)]
 mod insertions;
 #[cfg(test)]
-mod keys;
-#[cfg(test)]
 mod lanes;
 #[cfg(test)]
 mod samples;
 #[cfg(test)]
 mod trails;
-#[cfg(test)]
-mod trees;

@@ -49,13 +49,14 @@ fn main(rt: HostRuntime) -> ExitCode {
 
 fn run<K: Sink>(alloc: Global, sink: &mut K) -> Result<(), Fault> {
     let mut index = Index::new(alloc, 1_000)?;
-    fill(alloc, &mut index)?;
-    ask(alloc, &index, sink)
+    fill_and_ask(alloc, &mut index, sink)
 }
 
-fn fill(alloc: Global, index: &mut Index) -> Result<(), Fault> {
+/// Keeps two clauses, and asks. The index is its caller's, so it is dropped in one place.
+fn fill_and_ask<K: Sink>(alloc: Global, index: &mut Index, sink: &mut K) -> Result<(), Fault> {
     keep(alloc, b"cnf(c1,axiom,p(f(X),a)).", index)?;
-    keep(alloc, b"cnf(c2,axiom,q(Y)|p(Y,a)).", index)
+    keep(alloc, b"cnf(c2,axiom,q(Y)|p(Y,a)).", index)?;
+    ask(alloc, index, sink)
 }
 
 /// Keeps the clause that the text begins with.

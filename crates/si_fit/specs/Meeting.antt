@@ -42,5 +42,6 @@ HasMet slots old new left right Clash =
     (f : Variable → Term) → IsSolvedBy slots old f → Equalizes f left right → ⊥
 HasMet slots old new left right Unknown = Unit {0}
 
+-- the map leaves frozen variables as they are
 abbrev pub LeavesFrozen : Slots → (Variable → Term) → Type 0
 LeavesFrozen slots f = (x : Variable) → is_frozen slots x ≡ true → f x ≡ terms.var x

@@ -80,7 +80,7 @@ cell_variable slots (cell.Ind n) j range e = of_variable slots (ind n) j range (
 -- ---- values
 module _ (slots : Slots) (pairs : Pairs) (bindings : AllByRecursion (IsBinding slots) pairs) where
   pub binding_at : (k : ℕ) (v : Bor (List Cell)) → value_at pairs k ≡ Some v → IsBinding slots (k, v)
-  binding_at k v bound = places.all_at (IsBinding slots) pairs k v bindings bound
+  binding_at k v bound = places.value_holds (IsBinding slots) pairs k v bindings bound
 
   pub some_cells : (k : ℕ) (v : Bor (List Cell)) → value_at pairs k ≡ Some v → 0 < length v.now
   some_cells k v bound = let whole = (binding_at k v bound).whole in places.inside v.now 0 whole.0 (whole_at v.now whole.0 whole.1)
@@ -125,12 +125,12 @@ module _ (slots : Slots) (f : Variable → Term) where
 
 module _ (slots : Slots) (pairs : Pairs) (bindings : AllByRecursion (IsBinding slots) pairs) (direct : AreDirect slots pairs) where
   pub direct_at : (k : ℕ) (v : Bor (List Cell)) → value_at pairs k ≡ Some v → IsDirect slots pairs (k, v)
-  direct_at k v bound = places.all_at (IsDirect slots pairs) pairs k v direct bound
+  direct_at k v bound = places.value_holds (IsDirect slots pairs) pairs k v direct bound
 
   -- no application is a slice of another value
   no_piece : (j k : ℕ) (u v : Bor (List Cell)) → k ≢ j → head_slot slots u.now ≡ None → value_at pairs j ≡ Some u → value_at pairs k ≡ Some v → IsPieceOf v.now u.now → ⊥
   no_piece j k u v differs applied at_j at_k piece =
-      places.all_at (λ other. other.0 ≢ j → IsPieceOf other.1.now u.now → ⊥) pairs k v ((direct_at j u at_j).apart applied) at_k differs piece
+      places.value_holds (λ other. other.0 ≢ j → IsPieceOf other.1.now u.now → ⊥) pairs k v ((direct_at j u at_j).apart applied) at_k differs piece
 
   -- a value that is a variable is that of a slot that isn't bound
   pub next_inside : (k next : ℕ) (v : Bor (List Cell)) → value_at pairs k ≡ Some v → head_slot slots v.now ≡ Some next → next < slot_count slots
@@ -163,7 +163,7 @@ module _ (slots : Slots) (pairs : Pairs) (bindings : AllByRecursion (IsBinding s
 
         image : f (variable_of slots k) ≡ t
         image =
-            places.all_at (λ pair. Equalizes f (variable_cell (variable_of slots pair.0) ∷ []) pair.1.now) pairs k v general.solves.equal bound
+            places.value_holds (λ pair. Equalizes f (variable_cell (variable_of slots pair.0) ∷ []) pair.1.now) pairs k v general.solves.equal bound
             (terms.var (variable_of slots k)) t (record { cells_are = refl; sound = tt }) binding.whole.1
             ∙ stays f t
             (
@@ -336,7 +336,7 @@ module _ (slots : Slots) (pairs : Pairs) (bindings : AllByRecursion (IsBinding s
                 let same : w ≡ slot = sym (slot_again slots w) ∙ ap (slot_of slots) variables ∙ slot_again slots slot in
                 omega (arith, same, h.own)
             go (Some v) some =
-                places.all_at (λ pair. head_slot slots pair.1.now ≡ Some slot → first ≤ pair.0) pairs w v h.others some
+                places.value_holds (λ pair. head_slot slots pair.1.now ≡ Some slot → first ≤ pair.0) pairs w v h.others some
                 (head_at w v some ∙ ap (λ t. cell_slot slots (first_cell t)) e ∙ slot_of-cell slots (variable_of slots slot) ∙ ap Some (slot_again slots slot))
 
         by : (o : Option ℕ) → leader slots f (terms.var (variable_of slots slot)) ≡ o → leader slots f (terms.var (variable_of slots slot)) ≡ Some first

@@ -137,7 +137,7 @@ module _ (slots : Slots) (pairs : Pairs) (can : CanBeReadOff slots pairs) where
 
     pub value_side : (k : ℕ) (v : Bor (List Cell)) → value_at pairs k ≡ Some v → HasRightSide slots pairs k (Some v.now)
     value_side k v bound =
-        application_right slots pairs can.bindings can.direct k v v.now bound (places.all_at (λ pair. head_slot slots pair.1.now ≡ None) pairs k v applied bound)
+        application_right slots pairs can.bindings can.direct k v v.now bound (places.value_holds (λ pair. head_slot slots pair.1.now ≡ None) pairs k v applied bound)
         (cells_stay v.now (binding_at slots pairs can.bindings k v bound).in_range (direct_at slots pairs can.bindings can.direct k v bound).unbound)
 
     pub no_side : (k : ℕ) → k < slot_count slots → value_at pairs k ≡ None → HasRightSide slots pairs k None

@@ -1,5 +1,5 @@
 -- The tokens of some bytes without annotations, one more at each step.
-use Rattle.std.proofs.Common.{◌≡◌, ℕ, zero, suc, ◌+◌, ◌<◌, ◌≤◌, Bool, true, false, not, ◌||◌, List, [], ◌∷◌, ◌++◌, length, drop, IsTrue, refl, ap, sym, ◌∙◌, subst, ◌⊎◌, inl, inr, append_assoc, arith}
+use Rattle.std.proofs.Common.{◌≡◌, ℕ, zero, suc, ◌+◌, ◌<◌, ◌≤◌, Bool, true, false, not, List, [], ◌∷◌, ◌++◌, length, drop, IsTrue, refl, ap, sym, ◌∙◌, subst, ◌⊎◌, inl, inr, append_assoc, arith}
 use Rattle.std.proofs.lemmas.Bool.{false≢true}
 use Rattle.std.proofs.lemmas.List.{map_push, map-append, length-map}
 use Rattle.si_defs.specs.Bytes.{Bytes}
@@ -68,12 +68,12 @@ leaves_more ts left t h = record {
 -- ---- the tokens so far
 -- All tokens up to a place, and those that are kept of them. Until a comma with one bracket open
 -- stands after six tokens, these are the same.
-pub record IsKept (item noted : Bool) (bytes : Bytes) (at start : ℕ) (tokens : List Lexeme) (depth place : ℕ) : Type 0 where
+pub record IsKept (item tried : Bool) (bytes : Bytes) (at start : ℕ) (tokens : List Lexeme) (depth place : ℕ) : Type 0 where
   pub all : List Lexeme
   pub so_far : IsSoFar item bytes at start all depth place
-  pub wanted : noted ≡ false → IsTrue item
-  pub kept : ((all ≡ tokens) × (noted ≡ false → HasNoComma 6 0 (tokens_of all)))
-      ⊎ (IsTrue item × (noted ≡ true) × LeavesOut (tokens_of all) (tokens_of tokens))
+  pub wanted : tried ≡ false → IsTrue item
+  pub kept : ((all ≡ tokens) × (tried ≡ false → HasNoComma 6 0 (tokens_of all)))
+      ⊎ (IsTrue item × (tried ≡ false → ⊥) × LeavesOut (tokens_of all) (tokens_of tokens))
 
 pub kept_none : (item : Bool) (bytes : Bytes) (at start : ℕ) (tokens : List Lexeme) → tokens ≡ [] → at ≤ start → IsBehindBlanks bytes (drop at bytes) start → IsKept item (not item) bytes at start tokens 0 start
 kept_none item bytes at start tokens e l b = record {
@@ -86,48 +86,37 @@ kept_none item bytes at start tokens e l b = record {
   wanted true f = refl
   wanted false f = absurd (false≢true (sym f))
 
-or_first : (a b : Bool) → (a || b) ≡ false → a ≡ false
-or_first true b e = e
-or_first false b e = refl
-
-or_second : (a b : Bool) → (a || b) ≡ false → b ≡ false
-or_second true b e = absurd (false≢true (sym e))
-or_second false b e = e
-
-or_true : (a b : Bool) → a ≡ true → (a || b) ≡ true
-or_true a b e = ap (λ x. x || b) e
-
-module _ (item noted : Bool) (bytes : Bytes) (at start : ℕ) (tokens : List Lexeme) (depth place : ℕ) (s : IsKept item noted bytes at start tokens depth place) (w : place < length bytes)
+module _ (item tried : Bool) (bytes : Bytes) (at start : ℕ) (tokens : List Lexeme) (depth place : ℕ) (s : IsKept item tried bytes at start tokens depth place) (w : place < length bytes)
     (l : Lexeme) (k : IsLexemeAt bytes place l) where
-  pub kept_more : (is_comma : Bool) (next : ℕ) → (6 ≤ length tokens → IsComma depth (token_of l) → is_comma ≡ true) → open_behind depth (token_of l) ≤ DEEPEST_NESTING
+  pub kept_more : (then_tried : Bool) (next : ℕ) → (then_tried ≡ false → (tried ≡ false) × (6 ≤ length tokens → IsComma depth (token_of l) → ⊥)) → open_behind depth (token_of l) ≤ DEEPEST_NESTING
       → (IsTrue item → IsStop depth (token_of l) → ⊥) → place + length l.spelling.now ≤ next → IsBehindBlanks bytes (drop (place + length l.spelling.now) bytes) next
-      → IsKept item (noted || is_comma) bytes at start (tokens ++ l ∷ []) (open_behind depth (token_of l)) next
-  kept_more is_comma next tells shallow no_stop m b = record {
+      → IsKept item then_tried bytes at start (tokens ++ l ∷ []) (open_behind depth (token_of l)) next
+  kept_more then_tried next not_yet shallow no_stop m b = record {
     all = s.all ++ l ∷ [];
     so_far = so_far_more item bytes at start s.all depth place next l s.so_far w k shallow no_stop m b;
-    wanted = λ e. s.wanted (or_first noted is_comma e);
+    wanted = λ e. s.wanted (not_yet e).0;
     kept = by s.kept;
   } where
-    none_yet : (s.all ≡ tokens) → (noted ≡ false → HasNoComma 6 0 (tokens_of s.all)) → (noted || is_comma) ≡ false → HasNoComma 6 0 (tokens_of (s.all ++ l ∷ []))
+    none_yet : (s.all ≡ tokens) → (tried ≡ false → HasNoComma 6 0 (tokens_of s.all)) → then_tried ≡ false → HasNoComma 6 0 (tokens_of (s.all ++ l ∷ []))
     none_yet same none e =
         subst (λ x. HasNoComma 6 0 x) (sym (map_push token_of s.all l))
-        (no_comma_push 6 0 (tokens_of s.all) (token_of l) (none (or_first noted is_comma e)) (λ long here.
-        false≢true (sym (or_second noted is_comma e) ∙ tells (omega (arith, long, length-map s.all token_of, ap length same)) (s.so_far.opened ∙ here.0, here.1))))
+        (no_comma_push 6 0 (tokens_of s.all) (token_of l) (none (not_yet e).0) (λ long here.
+        (not_yet e).1 (omega (arith, long, length-map s.all token_of, ap length same)) (s.so_far.opened ∙ here.0, here.1)))
 
-    by : ((s.all ≡ tokens) × (noted ≡ false → HasNoComma 6 0 (tokens_of s.all))) ⊎ (IsTrue item × (noted ≡ true) × LeavesOut (tokens_of s.all) (tokens_of tokens))
-        → ((s.all ++ l ∷ [] ≡ tokens ++ l ∷ []) × ((noted || is_comma) ≡ false → HasNoComma 6 0 (tokens_of (s.all ++ l ∷ []))))
-        ⊎ (IsTrue item × ((noted || is_comma) ≡ true) × LeavesOut (tokens_of (s.all ++ l ∷ [])) (tokens_of (tokens ++ l ∷ [])))
+    by : ((s.all ≡ tokens) × (tried ≡ false → HasNoComma 6 0 (tokens_of s.all))) ⊎ (IsTrue item × (tried ≡ false → ⊥) × LeavesOut (tokens_of s.all) (tokens_of tokens))
+        → ((s.all ++ l ∷ [] ≡ tokens ++ l ∷ []) × (then_tried ≡ false → HasNoComma 6 0 (tokens_of (s.all ++ l ∷ []))))
+        ⊎ (IsTrue item × (then_tried ≡ false → ⊥) × LeavesOut (tokens_of (s.all ++ l ∷ [])) (tokens_of (tokens ++ l ∷ [])))
     by (inl (same, none)) = inl (ap (λ x. x ++ l ∷ []) same, none_yet same none)
     by (inr (i, n, out)) =
         inr (
           i,
-          or_true noted is_comma n,
+          λ e. n (not_yet e).0,
           subst (λ x. LeavesOut x (tokens_of (tokens ++ l ∷ []))) (sym (map_push token_of s.all l))
               (subst (λ x. LeavesOut (tokens_of s.all ++ token_of l ∷ []) x) (sym (map_push token_of tokens l)) (leaves_more (tokens_of s.all) (tokens_of tokens) (token_of l) out)),
         )
 
   -- annotations after it, up to and with the bracket that closes the clause
-  pub kept_past : (bracket : Lexeme) (end next : ℕ) → noted ≡ false → IsComma depth (token_of l) → 6 ≤ length tokens → BeginsClause (tokens_of tokens)
+  pub kept_past : (bracket : Lexeme) (end next : ℕ) → tried ≡ false → IsComma depth (token_of l) → 6 ≤ length tokens → BeginsClause (tokens_of tokens)
       → IsPastAnnotations bytes (place + length l.spelling.now) bracket end → end ≤ next → IsBehindBlanks bytes (drop end bytes) next
       → IsKept item true bytes at start (tokens ++ bracket ∷ []) 0 next
   kept_past bracket end next first is_comma six word p m b = by s.kept where
@@ -176,9 +165,9 @@ module _ (item noted : Bool) (bytes : Bytes) (at start : ℕ) (tokens : List Lex
         so_far_past item bytes at start s.all extra 1 place end next far (subst (λ x. Begins far.rest x (drop end bytes)) (sym spelled) begins)
         (subst (λ x. nesting_from 1 x ≤ DEEPEST_NESTING) (sym spelled) nested) (subst (λ x. HasNoStop 1 x) (sym spelled) no_stop) (ap (depth_from 1) spelled ∙ closed) onward b
 
-    by : ((s.all ≡ tokens) × (noted ≡ false → HasNoComma 6 0 (tokens_of s.all))) ⊎ (IsTrue item × (noted ≡ true) × LeavesOut (tokens_of s.all) (tokens_of tokens))
+    by : ((s.all ≡ tokens) × (tried ≡ false → HasNoComma 6 0 (tokens_of s.all))) ⊎ (IsTrue item × (tried ≡ false → ⊥) × LeavesOut (tokens_of s.all) (tokens_of tokens))
         → IsKept item true bytes at start (tokens ++ bracket ∷ []) 0 next
-    by (inr (i, n, out)) = absurd (false≢true (sym first ∙ n))
+    by (inr (i, n, out)) = absurd (n first)
     by (inl (same, none)) = record {
       all = s.all ++ extra;
       so_far = so_far;
@@ -186,7 +175,7 @@ module _ (item noted : Bool) (bytes : Bytes) (at start : ℕ) (tokens : List Lex
       kept =
           inr (
             s.wanted first,
-            refl,
+            λ e. false≢true (sym e),
             record {
               front = tokens_of s.all;
               notes = notes;
@@ -205,7 +194,7 @@ module _ (item noted : Bool) (bytes : Bytes) (at start : ℕ) (tokens : List Lex
     }
 
 -- ---- where they stop
-module _ (item noted : Bool) (bytes : Bytes) (at : ℕ) (l : Lexing) where
+module _ (item tried : Bool) (bytes : Bytes) (at : ℕ) (l : Lexing) where
   up_to : (all : List Lexeme) → ((all ≡ l.tokens.items) ⊎ (IsTrue item × LeavesOut (tokens_of all) (tokens_of l.tokens.items)))
       → AreTokensUpTo item bytes at all l.start l.end l.stop → IsBriefUpTo item bytes at l
   up_to all kept h = by item kept h where
@@ -216,22 +205,22 @@ module _ (item noted : Bool) (bytes : Bytes) (at : ℕ) (l : Lexing) where
     by false (inl e) h = subst (λ x. AreTokensUpTo false bytes at x l.start l.end l.stop) e h
     by false (inr (i, out)) h = absurd (false≢true i)
 
-  parts : {start depth place : ℕ} {tokens : List Lexeme} (s : IsKept item noted bytes at start tokens depth place)
+  parts : {start depth place : ℕ} {tokens : List Lexeme} (s : IsKept item tried bytes at start tokens depth place)
       → (s.all ≡ tokens) ⊎ (IsTrue item × LeavesOut (tokens_of s.all) (tokens_of tokens))
   parts {tokens = tokens} s = by s.kept where
-    by : ((s.all ≡ tokens) × (noted ≡ false → HasNoComma 6 0 (tokens_of s.all))) ⊎ (IsTrue item × (noted ≡ true) × LeavesOut (tokens_of s.all) (tokens_of tokens))
+    by : ((s.all ≡ tokens) × (tried ≡ false → HasNoComma 6 0 (tokens_of s.all))) ⊎ (IsTrue item × (tried ≡ false → ⊥) × LeavesOut (tokens_of s.all) (tokens_of tokens))
         → (s.all ≡ tokens) ⊎ (IsTrue item × LeavesOut (tokens_of s.all) (tokens_of tokens))
     by (inl (same, none)) = inl same
     by (inr (i, n, out)) = inr (i, out)
 
-  pub brief_end : (depth : ℕ) → IsKept item noted bytes at l.start l.tokens.items depth l.end → length bytes ≤ l.end → l.stop ≡ End → IsBriefUpTo item bytes at l
+  pub brief_end : (depth : ℕ) → IsKept item tried bytes at l.start l.tokens.items depth l.end → length bytes ≤ l.end → l.stop ≡ End → IsBriefUpTo item bytes at l
   brief_end depth s w e = up_to s.all (parts s) (lexing_end item bytes at s.all l.start l.end l.stop depth s.so_far w e)
 
-  pub brief_bad : (depth : ℕ) → IsKept item noted bytes at l.start l.tokens.items depth l.end → l.end < length bytes → NoTokenWithin bytes l.end depth → l.stop ≡ Bad
+  pub brief_bad : (depth : ℕ) → IsKept item tried bytes at l.start l.tokens.items depth l.end → l.end < length bytes → NoTokenWithin bytes l.end depth → l.stop ≡ Bad
       → IsBriefUpTo item bytes at l
   brief_bad depth s w n e = up_to s.all (parts s) (lexing_bad item bytes at s.all l.start l.end l.stop depth s.so_far w n e)
 
-  pub brief_stop : (tokens : List Lexeme) (depth place : ℕ) (t : Lexeme) → IsKept item noted bytes at l.start tokens depth place → item ≡ true → place < length bytes
+  pub brief_stop : (tokens : List Lexeme) (depth place : ℕ) (t : Lexeme) → IsKept item tried bytes at l.start tokens depth place → item ≡ true → place < length bytes
       → IsLexemeAt bytes place t → open_behind depth (token_of t) ≤ DEEPEST_NESTING → IsStop depth (token_of t) → l.tokens.items ≡ tokens ++ t ∷ []
       → l.end ≡ place + length t.spelling.now → l.stop ≡ FullStop → IsBriefUpTo item bytes at l
   brief_stop tokens depth place t s i w k d f items is_end stop =

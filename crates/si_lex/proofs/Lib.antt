@@ -11,5 +11,6 @@ pub mod FirstLaws
 pub mod LexingLaws
 pub mod ReadBackTokens
 pub mod BracketLaws
+pub mod OpenBracketLaws
 pub mod AnnotationLaws
 pub mod BriefLaws

@@ -1,8 +1,8 @@
 -- Annotations that are left out of the tokens of an item.
-use Rattle.std.specs.Prelude.{◌≡◌, ◌≢◌, ℕ, zero, suc, ◌+◌, ◌*◌, ◌≤◌, ◌⊎◌, List, [], ◌∷◌, ◌++◌, length, drop, codes, IsTrue, Some, Bool, true, false}
+use Rattle.std.specs.Prelude.{◌≡◌, ◌≢◌, ℕ, zero, suc, ◌≤◌, ◌⊎◌, List, [], ◌∷◌, ◌++◌, length, drop, codes, IsTrue, Bool, true, false}
 use Rattle.si_defs.specs.Bytes.{Bytes}
-use Rattle.si_defs.specs.Tokens.{Token, NextToken, Begins, lower, mark}
-use Rattle.si_defs.specs.Grammar.{Bracket, round, square, neither, brackets_behind, balances, open_behind, nesting_from, comma, right_bracket}
+use Rattle.si_defs.specs.Tokens.{Token, NextToken, Begins, lower}
+use Rattle.si_defs.specs.Grammar.{balances, open_behind, nesting_from, comma, right_bracket}
 use Rattle.si_defs.specs.declared.TheConstants.{DEEPEST_NESTING}
 use Rattle.si_lex.specs.declared.lexeme.Lexeme.{Lexeme}
 use Rattle.si_lex.specs.declared.lexing.Lexing.{Lexing}
@@ -27,8 +27,8 @@ abbrev pub BeginsClause : List Token → Type 0
 BeginsClause [] = ⊥
 BeginsClause (t ∷ ts) = t ≡ lower (codes "cnf")
 
--- These are the tokens but for annotations and the comma before them. It is the first inside one
--- bracket after `cnf(name,role,`, as commas of a formula stand deeper.
+-- These are the tokens but for annotations and the comma before them. That comma is the first
+-- inside one bracket after `cnf(name,role,`, since commas of a formula stand deeper.
 pub record LeavesOut (ts left : List Token) : Type 0 where
   pub front : List Token
   pub notes : List Token
@@ -54,24 +54,8 @@ abbrev pub IsBriefUpTo : Bool → Bytes → ℕ → Lexing → Type 0
 IsBriefUpTo true bytes at l = IsBriefLexing bytes at l
 IsBriefUpTo false bytes at l = IsLexing bytes at l
 
--- ---- brackets as a number
--- The open brackets of annotations as the digits of a binary number, the last one last: 0 for a
--- round one, 1 for a square one. Before them come a 1 and the 0 of the clause's own bracket.
-abbrev pub Encodes : ℕ → List Bracket → Type 0
-Encodes n [] = n ≡ 2
-Encodes n (round ∷ bs) = (m : ℕ) × Encodes m bs × (n ≡ m * 2)
-Encodes n (square ∷ bs) = (m : ℕ) × Encodes m bs × (n ≡ m * 2 + 1)
-Encodes n (neither ∷ bs) = ⊥
-
--- the next number after a token that begins with this byte; or the byte closes the clause
-abbrev pub IsNextNumber : ℕ → ℕ → ℕ → Type 0
-IsNextNumber byte n next = (stack : List Bracket) → Encodes n stack
-    → ((stack ≡ []) × (byte ≡ 41) × (next ≡ 1))
-    ⊎ ((after : List Bracket) × (brackets_behind (mark byte) stack ≡ Some after)
-    × Encodes next after)
-
 -- ---- places
--- annotations stand after the place, this bracket closes the clause after them, and here it ends
+-- After the place stand annotations and the bracket that closes the clause, which ends here.
 pub record IsPastAnnotations (bytes : Bytes) (at : ℕ) (bracket : Lexeme) (end : ℕ) : Type 0 where
   pub notes : List Lexeme
   pub rest : Bytes

@@ -6,4 +6,5 @@ pub mod Blanks
 pub mod Places
 pub mod FullStops
 pub mod Lexing
+pub mod OpenBrackets
 pub mod Annotations

@@ -44,7 +44,7 @@ pub struct Lexing<'a> {
 }
 
 impl<'a> Lexing<'a> {
-    // These tokens, with where they begin and end, and why.
+    // These tokens, with where they begin and end, and why they end there.
     #[inline(always)]
     fn new(tokens: Vec<Lexeme<'a>>, start: usize, end: usize, stop: TokensEnd) -> Lexing<'a>
         ensures { result
@@ -78,7 +78,7 @@ pub fn lex<'a>(alloc: Global, bytes: &'a [u8], at: usize) -> Result<Lexing<'a>, 
 /// brackets, and without the annotations of a clause and the comma before them.
 ///
 /// After that full stop no byte is looked at. Annotations are kept where their brackets don't
-/// match, or where more than 61 of them are open at once.
+/// match or aren't closed, or where more than 63 are open at once.
 ///
 /// # Errors
 ///
@@ -93,7 +93,7 @@ pub fn lex_item<'a>(alloc: Global, bytes: &'a [u8], at: usize) -> Result<Lexing<
 }
 
 // The tokens from a place on; if `item`, up to a full stop outside brackets, and without
-// annotations. These are tried at one comma alone (`noted`), so no byte is lexed more than twice.
+// annotations. These are tried at one comma alone (`tried`), so no byte is lexed more than twice.
 // It is compiled once for each, and not into what calls them: its loop wants the registers.
 #[inline(always)]
 fn lex_up_to<'a>(
@@ -109,24 +109,22 @@ fn lex_up_to<'a>(
     let start = skip_blanks(bytes, at);
     let mut tokens = room(alloc, start < bytes.len(), bytes.len())?;
     let mut depth = 0;
-    let mut noted = !item;
+    let mut tried = !item;
     let mut place = start;
     while place < bytes.len() {
         let Some((lexeme, behind)) = lexeme_within(bytes, place, depth) else {
             return Ok(Lexing::new(tokens, start, place, TokensEnd::Bad));
         };
         let end = place + lexeme.spelling.len();
-        let comma = ends_formula(tokens.len(), depth, &lexeme);
-        if comma && !noted {
+        if !tried && ends_formula(tokens.len(), depth, &lexeme) {
+            tried = true;
             if let Some((bracket, after)) = past_annotations(tokens.as_slice(), bytes, end) {
                 tokens.push(bracket)?;
                 depth = 0;
                 place = skip_blanks(bytes, after);
-                noted = true;
                 continue;
             }
         }
-        noted = noted || comma;
         let stops = is_stop(depth, &lexeme);
         tokens.push(lexeme)?;
         if item && stops {

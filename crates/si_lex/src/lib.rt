@@ -3,6 +3,7 @@
 
 mod annotations;
 mod blanks;
+mod brackets;
 mod bytes;
 mod lexeme;
 mod lexing;

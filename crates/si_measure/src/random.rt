@@ -41,6 +41,13 @@ pub(crate) fn measure(alloc: Global, size: u32, times: u32) -> Result<Measured, 
     solve_often(alloc, variables, &terms.left, &terms.right, times)
 }
 
+/// Two terms, each put together from two.
+fn pairs(alloc: Global, lefts: (&Flat, &Flat), rights: (&Flat, &Flat)) -> Result<Two, AllocError> {
+    let left = pair(alloc, lefts.0, lefts.1)?;
+    let right = pair(alloc, rights.0, rights.1)?;
+    Ok(Two { left, right })
+}
+
 impl Generator {
     /// Two terms of about so many cells.
     fn terms(&mut self, size: u32) -> Result<Two, AllocError> {
@@ -56,29 +63,41 @@ impl Generator {
     /// Two terms put together from two and two. Small ones are now and then cut off: a variable
     /// stands for one of them, or one against a term that stands twice.
     fn join(&mut self, size: u32, one: &Two, other: &Two) -> Result<Two, AllocError> {
-        let left = pair(self.alloc, &one.left, &other.left)?;
-        let right = pair(self.alloc, &one.right, &other.right)?;
         if size > MOST_CUT {
-            return Ok(Two { left, right });
+            return self.both(one, other);
         }
         match self.below(16) {
-            0 => Ok(Two {
-                left,
-                right: self.variable(Owner::Entry)?,
-            }),
-            1 => Ok(Two {
-                left: self.variable(Owner::Query)?,
-                right,
-            }),
-            2 => {
-                let value = self.variable(Owner::Entry)?;
-                Ok(Two {
-                    left: pair(self.alloc, &one.left, &one.left)?,
-                    right: pair(self.alloc, &value, &value)?,
-                })
-            }
-            _ => Ok(Two { left, right }),
+            0 => self.without_right(one, other),
+            1 => self.without_left(one, other),
+            2 => self.twice(one),
+            _ => self.both(one, other),
         }
+    }
+
+    fn both(&self, one: &Two, other: &Two) -> Result<Two, AllocError> {
+        let lefts = (&one.left, &other.left);
+        let rights = (&one.right, &other.right);
+        pairs(self.alloc, lefts, rights)
+    }
+
+    /// A variable stands for the right term.
+    fn without_right(&mut self, one: &Two, other: &Two) -> Result<Two, AllocError> {
+        let right = self.variable(Owner::Entry)?;
+        let left = pair(self.alloc, &one.left, &other.left)?;
+        Ok(Two { left, right })
+    }
+
+    /// A variable stands for the left term.
+    fn without_left(&mut self, one: &Two, other: &Two) -> Result<Two, AllocError> {
+        let left = self.variable(Owner::Query)?;
+        let right = pair(self.alloc, &one.right, &other.right)?;
+        Ok(Two { left, right })
+    }
+
+    /// A variable stands against a term, twice.
+    fn twice(&mut self, one: &Two) -> Result<Two, AllocError> {
+        let value = self.variable(Owner::Entry)?;
+        pairs(self.alloc, (&one.left, &one.left), (&value, &value))
     }
 
     /// The same constant twice.

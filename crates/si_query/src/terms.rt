@@ -31,10 +31,10 @@ pub(crate) fn term<'t, 'b, T: SymTable>(
             }
             TokenKind::Int => constant(alloc, table, SymKind::Number, first, rest, writer),
             TokenKind::Double => constant(alloc, table, SymKind::Distinct, first, rest, writer),
-            TokenKind::Lower => application(alloc, table, SymKind::Word, first, rest, writer),
-            TokenKind::Single => application(alloc, table, SymKind::Word, first, rest, writer),
-            TokenKind::Dollar => application(alloc, table, SymKind::Dollar, first, rest, writer),
-            TokenKind::NotEqual | TokenKind::Mark => Ok(None),
+            kind => match head_kind(kind) {
+                Some(symbol) => application(alloc, table, symbol, first, rest, writer),
+                None => Ok(None),
+            },
         },
         [] => Ok(None),
     }
@@ -68,6 +68,7 @@ fn constant<'t, 'b, T: SymTable>(
 
 /// A head with the arguments that stand after it, if any do.
 #[cycle(reading)]
+#[inline(always)]
 fn application<'t, 'b, T: SymTable>(
     alloc: Global,
     table: &T,
@@ -99,6 +100,7 @@ fn application<'t, 'b, T: SymTable>(
 /// How many arguments stand after a head, and the tokens after them. None are there without a
 /// bracket.
 #[cycle(reading)]
+#[inline(always)]
 pub(crate) fn applied<'t, 'b, T: SymTable>(
     alloc: Global,
     table: &T,
@@ -149,6 +151,7 @@ fn arguments<'t, 'b, T: SymTable>(
 }
 
 /// The kind of the symbol that a token is as a head, before arguments or alone.
+#[inline(always)]
 pub(crate) fn head_kind(kind: TokenKind) -> Option<SymKind>
     ensures { IfSome result (IsHeadKind kind) }
 {

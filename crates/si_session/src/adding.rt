@@ -8,13 +8,13 @@ ghost use Rattle.si_session.specs.Commands.{ReadsCommand};
 ghost use Rattle.si_session.specs.declared.command.Command.TheVariants as command;
 
 use si_defs::TokenKind;
-use si_lex::{Lexed, Token, next_token};
-use si_parse::item::{Read, next_item};
+use si_lex::{Lexed, Token, TokensEnd, lex_item, next_token};
+use si_parse::grammar::clause;
 use si_term::Clause;
 use std::alloc::{AllocError, Global};
 
-/// The clause that a line adds, where it can be read as an item of a file is, which passes its
-/// annotations. `None` says nothing: the line is to be read as any other is.
+/// The clause that a line adds, read as the clauses of files are, so that its annotations are
+/// passed. `None` says nothing: the line is then to be read as any other is.
 pub fn added_at_once(alloc: Global, line: &[u8]) -> Option<Clause>
     requires { length line.now ≤ MOST_BYTES }
     ensures { IfSome result (λ clause. ReadsCommand line.now (command.Add clause)) }
@@ -28,7 +28,9 @@ pub fn added_at_once(alloc: Global, line: &[u8]) -> Option<Clause>
     }
 }
 
-/// The same of any line. Where memory runs out, nothing is said.
+/// The same, whatever the line begins with. At an error nothing is said.
+///
+/// What follows the clause is looked at before the clause is made.
 fn added(alloc: Global, line: &[u8]) -> Result<Option<Clause>, AllocError>
     requires { length line.now ≤ MOST_BYTES }
     ensures { IfOk result (λ found. IfSome found
@@ -40,13 +42,17 @@ fn added(alloc: Global, line: &[u8]) -> Result<Option<Clause>, AllocError>
     if !is_add(&word) {
         return Ok(None);
     }
-    let Read::Cnf(clause, end) = next_item(alloc, line, word.end)? else {
+    let item = lex_item(alloc, line, word.end)?;
+    let TokensEnd::FullStop = item.stop else {
         return Ok(None);
     };
-    let Lexed::End = next_token(alloc, line, end)? else {
+    let Lexed::End = next_token(alloc, line, item.end)? else {
         return Ok(None);
     };
-    Ok(Some(clause))
+    match clause(alloc, item.tokens.as_slice())? {
+        Some((clause, _)) => Ok(Some(clause)),
+        None => Ok(None),
+    }
 }
 
 /// Whether a token is the word `add`.

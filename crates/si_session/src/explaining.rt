@@ -41,7 +41,7 @@ pub fn explained_at_once(alloc: Global, index: &Index, line: &[u8]) -> Option<Ex
     }
 }
 
-/// The same of any line. Where memory runs out, nothing is said.
+/// The same, whatever the line begins with. At an error nothing is said.
 fn explained(alloc: Global, index: &Index, line: &[u8]) -> Result<Option<Explained>, AllocError>
     requires { length line.now ≤ MOST_BYTES }
     ensures { IfOk result (λ found. IfSome found (IsExplained index.now line.now)) }

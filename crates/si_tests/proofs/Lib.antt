@@ -1,3 +1,2 @@
 pub mod OneSymbol
 pub mod BuiltTerms
-pub mod WrittenTerms

@@ -139,13 +139,13 @@ fn answer(
     s: &Flat,
     t: &Flat,
 ) -> Result<Vec<u8>, AllocError> {
-    let mut trail = Trail::with_slots(alloc, slots.count())?;
     if !slots.are_in_range(s.cells()) {
         return Err(AllocError);
     }
     if !slots.are_in_range(t.cells()) {
         return Err(AllocError);
     }
+    let mut trail = Trail::with_slots(alloc, slots.count())?;
     let is_solved = match scratch {
         Some(scratch) => solve_with(scratch, &mut trail, slots, s.cells(), t.cells())?,
         None => solve(alloc, &mut trail, slots, s.cells(), t.cells())?,
@@ -225,131 +225,108 @@ fn assert_rows(rt: &impl Abort, alloc: Global, rows: &[Row]) -> Result<(), Alloc
     Ok(())
 }
 
-#[test]
-fn clashes_at_every_depth(rt: HostRuntime) -> Result<(), Fail> {
-    let rows: [Row; 14] = [
-        (b"a", b"a", [b""; 4]),
-        (b"a", b"b", [b"false"; 4]),
-        (b"ga", b"gb", [b"false"; 4]),
-        (b"gga", b"ggb", [b"false"; 4]),
-        (b"ggga", b"gggb", [b"false"; 4]),
-        (b"faga", b"fagb", [b"false"; 4]),
-        (b"fgab", b"fgaa", [b"false"; 4]),
-        (b"ga", b"ha", [b"false"; 4]),
-        (b"ga", b"a", [b"false"; 4]),
-        (b"fab", b"ga", [b"false"; 4]),
-        (b"ga", b"fab", [b"false"; 4]),
-        (b"fafbc", b"fafbb", [b"false"; 4]),
-        (b"fab", b"fba", [b"false"; 4]),
-        (b"gga", b"ga", [b"false"; 4]),
-    ];
-    assert_rows(&rt, rt.alloc(), &rows)?;
-    Ok(())
-}
+// Clashes at every depth.
+const CLASHES: &[Row] = &[
+    (b"a", b"a", [b""; 4]),
+    (b"a", b"b", [b"false"; 4]),
+    (b"ga", b"gb", [b"false"; 4]),
+    (b"gga", b"ggb", [b"false"; 4]),
+    (b"ggga", b"gggb", [b"false"; 4]),
+    (b"faga", b"fagb", [b"false"; 4]),
+    (b"fgab", b"fgaa", [b"false"; 4]),
+    (b"ga", b"ha", [b"false"; 4]),
+    (b"ga", b"a", [b"false"; 4]),
+    (b"fab", b"ga", [b"false"; 4]),
+    (b"ga", b"fab", [b"false"; 4]),
+    (b"fafbc", b"fafbb", [b"false"; 4]),
+    (b"fab", b"fba", [b"false"; 4]),
+    (b"gga", b"ga", [b"false"; 4]),
+];
 
-#[test]
-fn equal_terms(rt: HostRuntime) -> Result<(), Fail> {
-    let rows: [Row; 5] = [
-        (b"gx", b"gx", [b""; 4]),
-        (b"fxX", b"fxX", [b""; 4]),
-        (b"fab", b"fab", [b""; 4]),
-        (b"fxfyz", b"fxfyz", [b""; 4]),
-        (b"ggX", b"ggX", [b""; 4]),
-    ];
-    assert_rows(&rt, rt.alloc(), &rows)?;
-    Ok(())
-}
+// Equal terms.
+const EQUAL: &[Row] = &[
+    (b"gx", b"gx", [b""; 4]),
+    (b"fxX", b"fxX", [b""; 4]),
+    (b"fab", b"fab", [b""; 4]),
+    (b"fxfyz", b"fxfyz", [b""; 4]),
+    (b"ggX", b"ggX", [b""; 4]),
+];
 
-#[test]
-fn a_variable_and_a_term(rt: HostRuntime) -> Result<(), Fail> {
-    let rows: [Row; 10] = [
-        (b"x", b"a", [b"x=a ", b"false", b"x=a ", b"false"]),
-        (b"a", b"x", [b"x=a ", b"false", b"x=a ", b"false"]),
-        (b"X", b"a", [b"X=a ", b"X=a ", b"false", b"false"]),
-        (b"a", b"X", [b"X=a ", b"X=a ", b"false", b"false"]),
-        (b"gx", b"ga", [b"x=a ", b"false", b"x=a ", b"false"]),
-        (b"ga", b"gX", [b"X=a ", b"X=a ", b"false", b"false"]),
-        (b"fxX", b"fab", [b"x=a X=b ", b"false", b"false", b"false"]),
-        (
-            b"fgxgX",
-            b"fgagb",
-            [b"x=a X=b ", b"false", b"false", b"false"],
-        ),
-        (b"x", b"gga", [b"x=gga ", b"false", b"x=gga ", b"false"]),
-        (b"gfxy", b"X", [b"X=gfxy ", b"X=gfxy ", b"false", b"false"]),
-    ];
-    assert_rows(&rt, rt.alloc(), &rows)?;
-    Ok(())
-}
+// A variable and a term.
+const TERMS: &[Row] = &[
+    (b"x", b"a", [b"x=a ", b"false", b"x=a ", b"false"]),
+    (b"a", b"x", [b"x=a ", b"false", b"x=a ", b"false"]),
+    (b"X", b"a", [b"X=a ", b"X=a ", b"false", b"false"]),
+    (b"a", b"X", [b"X=a ", b"X=a ", b"false", b"false"]),
+    (b"gx", b"ga", [b"x=a ", b"false", b"x=a ", b"false"]),
+    (b"ga", b"gX", [b"X=a ", b"X=a ", b"false", b"false"]),
+    (b"fxX", b"fab", [b"x=a X=b ", b"false", b"false", b"false"]),
+    (
+        b"fgxgX",
+        b"fgagb",
+        [b"x=a X=b ", b"false", b"false", b"false"],
+    ),
+    (b"x", b"gga", [b"x=gga ", b"false", b"x=gga ", b"false"]),
+    (b"gfxy", b"X", [b"X=gfxy ", b"X=gfxy ", b"false", b"false"]),
+];
 
-#[test]
-fn a_variable_and_a_variable(rt: HostRuntime) -> Result<(), Fail> {
-    let rows: [Row; 15] = [
-        (b"x", b"y", [b"x=y ", b"false", b"x=y ", b"false"]),
-        (b"y", b"x", [b"y=x ", b"false", b"y=x ", b"false"]),
-        (b"x", b"X", [b"x=X ", b"X=x ", b"x=X ", b"false"]),
-        (b"X", b"x", [b"X=x ", b"X=x ", b"x=X ", b"false"]),
-        (b"X", b"Y", [b"X=Y ", b"X=Y ", b"false", b"false"]),
-        (b"Y", b"X", [b"Y=X ", b"Y=X ", b"false", b"false"]),
-        (b"p", b"x", [b"p=x "; 4]),
-        (b"x", b"p", [b"x=p ", b"p=x ", b"x=p ", b"p=x "]),
-        (b"p", b"X", [b"p=X "; 4]),
-        (b"X", b"p", [b"X=p ", b"X=p ", b"p=X ", b"p=X "]),
-        (b"p", b"q", [b"p=q "; 4]),
-        (b"q", b"p", [b"q=p "; 4]),
-        (b"p", b"p", [b""; 4]),
-        (b"x", b"x", [b""; 4]),
-        (b"X", b"X", [b""; 4]),
-    ];
-    assert_rows(&rt, rt.alloc(), &rows)?;
-    Ok(())
-}
+// A variable and a variable.
+const VARIABLES: &[Row] = &[
+    (b"x", b"y", [b"x=y ", b"false", b"x=y ", b"false"]),
+    (b"y", b"x", [b"y=x ", b"false", b"y=x ", b"false"]),
+    (b"x", b"X", [b"x=X ", b"X=x ", b"x=X ", b"false"]),
+    (b"X", b"x", [b"X=x ", b"X=x ", b"x=X ", b"false"]),
+    (b"X", b"Y", [b"X=Y ", b"X=Y ", b"false", b"false"]),
+    (b"Y", b"X", [b"Y=X ", b"Y=X ", b"false", b"false"]),
+    (b"p", b"x", [b"p=x "; 4]),
+    (b"x", b"p", [b"x=p ", b"p=x ", b"x=p ", b"p=x "]),
+    (b"p", b"X", [b"p=X "; 4]),
+    (b"X", b"p", [b"X=p ", b"X=p ", b"p=X ", b"p=X "]),
+    (b"p", b"q", [b"p=q "; 4]),
+    (b"q", b"p", [b"q=p "; 4]),
+    (b"p", b"p", [b""; 4]),
+    (b"x", b"x", [b""; 4]),
+    (b"X", b"X", [b""; 4]),
+];
 
-#[test]
-fn indicators(rt: HostRuntime) -> Result<(), Fail> {
-    let rows: [Row; 12] = [
-        (b"p", b"ga", [b"p=ga "; 4]),
-        (b"ga", b"p", [b"p=ga "; 4]),
-        (b"fpq", b"fab", [b"p=a q=b "; 4]),
-        (b"fpp", b"fab", [b"false"; 4]),
-        (b"fpp", b"faa", [b"p=a "; 4]),
-        (
-            b"fpx",
-            b"fqp",
-            [b"p=q x=q ", b"p=q q=x ", b"p=q x=q ", b"p=q q=x "],
-        ),
-        (b"gp", b"gga", [b"p=ga "; 4]),
-        (b"fpgp", b"fqga", [b"p=q q=a "; 4]),
-        (b"c", b"ga", [b"false"; 4]),
-        (b"ga", b"c", [b"false"; 4]),
-        (b"fca", b"fgaa", [b"false"; 4]),
-        (b"fac", b"faga", [b"false"; 4]),
-    ];
-    assert_rows(&rt, rt.alloc(), &rows)?;
-    Ok(())
-}
+// Indicators.
+const INDICATORS: &[Row] = &[
+    (b"p", b"ga", [b"p=ga "; 4]),
+    (b"ga", b"p", [b"p=ga "; 4]),
+    (b"fpq", b"fab", [b"p=a q=b "; 4]),
+    (b"fpp", b"fab", [b"false"; 4]),
+    (b"fpp", b"faa", [b"p=a "; 4]),
+    (
+        b"fpx",
+        b"fqp",
+        [b"p=q x=q ", b"p=q q=x ", b"p=q x=q ", b"p=q q=x "],
+    ),
+    (b"gp", b"gga", [b"p=ga "; 4]),
+    (b"fpgp", b"fqga", [b"p=q q=a "; 4]),
+    (b"c", b"ga", [b"false"; 4]),
+    (b"ga", b"c", [b"false"; 4]),
+    (b"fca", b"fgaa", [b"false"; 4]),
+    (b"fac", b"faga", [b"false"; 4]),
+];
 
-#[test]
-fn circles(rt: HostRuntime) -> Result<(), Fail> {
-    let rows: [Row; 12] = [
-        (b"x", b"gx", [b"false"; 4]),
-        (b"gx", b"x", [b"false"; 4]),
-        (b"X", b"gX", [b"false"; 4]),
-        (b"p", b"gp", [b"false"; 4]),
-        (b"fxx", b"fxgx", [b"false"; 4]),
-        (b"fxy", b"fgygx", [b"false"; 4]),
-        (b"fpq", b"fgqgp", [b"false"; 4]),
-        (b"fxX", b"fgXgx", [b"false"; 4]),
-        (b"fxfyz", b"fgyfgzgx", [b"false"; 4]),
-        (b"ffxyfzX", b"ffgygzfgXgx", [b"false"; 4]),
-        (b"fxX", b"fXgx", [b"false"; 4]),
-        (b"fxy", b"fyx", [b"x=y ", b"false", b"x=y ", b"false"]),
-    ];
-    assert_rows(&rt, rt.alloc(), &rows)?;
-    Ok(())
-}
+// Circles.
+const CIRCLES: &[Row] = &[
+    (b"x", b"gx", [b"false"; 4]),
+    (b"gx", b"x", [b"false"; 4]),
+    (b"X", b"gX", [b"false"; 4]),
+    (b"p", b"gp", [b"false"; 4]),
+    (b"fxx", b"fxgx", [b"false"; 4]),
+    (b"fxy", b"fgygx", [b"false"; 4]),
+    (b"fpq", b"fgqgp", [b"false"; 4]),
+    (b"fxX", b"fgXgx", [b"false"; 4]),
+    (b"fxfyz", b"fgyfgzgx", [b"false"; 4]),
+    (b"ffxyfzX", b"ffgygzfgXgx", [b"false"; 4]),
+    (b"fxX", b"fXgx", [b"false"; 4]),
+    (b"fxy", b"fyx", [b"x=y ", b"false", b"x=y ", b"false"]),
+];
 
-const TWICE: [Row; 17] = [
+// Variables that stand twice.
+const TWICE: &[Row] = &[
     (b"fxx", b"fab", [b"false"; 4]),
     (b"fxx", b"faa", [b"x=a ", b"false", b"x=a ", b"false"]),
     (
@@ -436,8 +413,12 @@ const TWICE: [Row; 17] = [
     ),
 ];
 
+const TABLES: [&[Row]; 7] = [CLASHES, EQUAL, TERMS, VARIABLES, INDICATORS, CIRCLES, TWICE];
+
 #[test]
-fn variables_that_stand_twice(rt: HostRuntime) -> Result<(), Fail> {
-    assert_rows(&rt, rt.alloc(), &TWICE)?;
+fn equations_have_these_bindings(rt: HostRuntime) -> Result<(), Fail> {
+    for rows in &TABLES {
+        assert_rows(&rt, rt.alloc(), rows)?;
+    }
     Ok(())
 }

@@ -6,25 +6,17 @@
 #[cfg(test)]
 mod equations;
 #[cfg(test)]
+mod faults;
+#[cfg(test)]
 mod flats;
 #[cfg(test)]
-mod indexes;
-#[cfg(test)]
 mod items;
-#[cfg(test)]
-mod lists;
 #[cfg(test)]
 mod loads;
 #[cfg(test)]
 mod maps;
 #[cfg(test)]
-mod prints;
-#[cfg(test)]
 mod short;
-#[cfg(test)]
-mod signatures;
-#[cfg(test)]
-mod stores;
 #[cfg(test)]
 mod terms;
 #[cfg(test)]

@@ -1,11 +1,10 @@
 // Loads of small files, whose answers were written down by hand.
-ghost use Rattle.std.specs.Prelude.{◌≡◌, ◌≤◌, length};
+ghost use Rattle.std.specs.Prelude.{◌≡◌, ◌≤◌};
 ghost use Rattle.si_defs.specs.declared.TheConstants.{MOST_OCCURRENCES};
 
 use si_defs::{MOST_OCCURRENCES, NameKind};
-use si_harvest::{HarvestFault, HarvestLimits, Loaded, expand, take_text};
+use si_harvest::{HarvestFault, HarvestLimits, Loaded, expand};
 use si_io::MemoryLibrary;
-use si_parse::item::{Read, next_item};
 use si_sign::{AddFault, ClauseStore, PlainStore};
 use si_term::{Name, Text};
 use std::alloc::{AllocError, Global};
@@ -655,59 +654,6 @@ fn assert_row(rt: &impl Abort, alloc: Global, row: &Row) -> Result<(), AllocErro
     }
     let mut store = PlainStore::new(alloc, entries);
     assert_loads(rt, alloc, row, &mut store)
-}
-
-/// Takes a text that is one clause.
-fn take_one(
-    alloc: Global,
-    bytes: &[u8],
-    store: &mut PlainStore,
-) -> Result<Result<Loaded, HarvestFault>, AllocError>
-    requires short { length bytes.now ≤ MOST_OCCURRENCES }
-    requires limit { store.old.0.entries ≤ MOST_OCCURRENCES }
-    ensures { store.new.0 ≡ store.old.0 }
-{
-    let Read::Cnf(_clause, end) = next_item(alloc, bytes, 0)? else {
-        return Err(AllocError);
-    };
-    let Read::End = next_item(alloc, bytes, end)? else {
-        return Err(AllocError);
-    };
-    Ok(take_text(alloc, bytes, store))
-}
-
-/// A text that is one clause has this answer.
-fn assert_answer(
-    rt: &impl Abort,
-    alloc: Global,
-    bytes: &[u8],
-    store: &mut PlainStore,
-    answer: Answer,
-) -> Result<(), AllocError>
-    requires short { length bytes.now ≤ MOST_OCCURRENCES }
-    requires limit { store.old.0.entries ≤ MOST_OCCURRENCES }
-    ensures { store.new.0 ≡ store.old.0 }
-{
-    let taken = take_one(alloc, bytes, store)?;
-    assert_eq!(rt; told(&taken).0, answer);
-    Ok(())
-}
-
-fn assert_takes(rt: &impl Abort, alloc: Global, store: &mut PlainStore) -> Result<(), AllocError>
-    requires { store.old.0.entries ≤ MOST_OCCURRENCES }
-{
-    let first = Answer::Gained(1, 2);
-    assert_answer(rt, alloc, b"cnf(a,axiom,p(b)). % a\n", store, first)?;
-    assert_answer(rt, alloc, b"cnf(a,axiom,q).", store, Answer::Taken)?;
-    assert!(rt; has_only(alloc, store, &[b"a"])?);
-    Ok(())
-}
-
-#[test]
-fn texts_are_taken(rt: HostRuntime) -> Result<(), Fail> {
-    let mut store = PlainStore::new(rt.alloc(), 8);
-    assert_takes(&rt, rt.alloc(), &mut store)?;
-    Ok(())
 }
 
 #[test]

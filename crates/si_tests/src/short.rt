@@ -58,6 +58,24 @@ const TEXTS: [Row; 3] = [
     (3, Answer::Gained(2, 5), &[b"s1", b"s2"]),
 ];
 
+/// What a load of the problem answers.
+fn load(alloc: Global, store: &mut ShortStore) -> Result<Answer, AllocError>
+    requires { store.old.rules.entries ≤ MOST_OCCURRENCES }
+{
+    let mut library = library_of(alloc, FILES, 0)?;
+    let loaded = expand(alloc, &mut library, b"main.p", &LIMITS, store);
+    Ok(told(&loaded).0)
+}
+
+/// What the text of two clauses that are drawn answers.
+fn take(alloc: Global, store: &mut ShortStore) -> Result<Answer, AllocError>
+    requires { store.old.rules.entries ≤ MOST_OCCURRENCES }
+{
+    let text = si_sample::sample(alloc, 1, 2)?;
+    let taken = take_text(alloc, text.as_slice(), store);
+    Ok(told(&taken).0)
+}
+
 fn assert_loads(
     rt: &impl Abort,
     alloc: Global,
@@ -66,9 +84,7 @@ fn assert_loads(
 ) -> Result<(), AllocError>
     requires { store.old.rules.entries ≤ MOST_OCCURRENCES }
 {
-    let mut library = library_of(alloc, FILES, 0)?;
-    let loaded = expand(alloc, &mut library, b"main.p", &LIMITS, store);
-    assert_eq!(rt; told(&loaded).0, row.1);
+    assert_eq!(rt; load(alloc, store)?, row.1);
     assert!(rt; has_only(alloc, store, row.2)?);
     Ok(())
 }
@@ -81,9 +97,7 @@ fn assert_takes(
 ) -> Result<(), AllocError>
     requires { store.old.rules.entries ≤ MOST_OCCURRENCES }
 {
-    let text = si_sample::sample(alloc, 1, 2)?;
-    let taken = take_text(alloc, text.as_slice(), store);
-    assert_eq!(rt; told(&taken).0, row.1);
+    assert_eq!(rt; take(alloc, store)?, row.1);
     assert!(rt; has_only(alloc, store, row.2)?);
     Ok(())
 }

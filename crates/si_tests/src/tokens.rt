@@ -43,80 +43,85 @@ fn assert_none(
     Ok(())
 }
 
+const TOKENS: [Row; 26] = [
+    (b"01", TokenKind::Int, 0, 1, b"0"),
+    (b"1.5", TokenKind::Int, 0, 1, b"1"),
+    (b"-", TokenKind::Mark, 0, 1, b"-"),
+    (b"-0", TokenKind::Int, 0, 2, b"-0"),
+    (b"-01", TokenKind::Int, 0, 2, b"-0"),
+    (b"+", TokenKind::Mark, 0, 1, b"+"),
+    (b"+120a", TokenKind::Int, 0, 4, b"+120"),
+    (b"!", TokenKind::Mark, 0, 1, b"!"),
+    (b"! =", TokenKind::Mark, 0, 1, b"!"),
+    (b"!=", TokenKind::NotEqual, 0, 2, b"!="),
+    (b"/", TokenKind::Mark, 0, 1, b"/"),
+    (b"//", TokenKind::Mark, 0, 1, b"/"),
+    (b"/**/a", TokenKind::Lower, 4, 5, b"a"),
+    (b"/*/*/a", TokenKind::Lower, 5, 6, b"a"),
+    (b"% c\na", TokenKind::Lower, 4, 5, b"a"),
+    (b"\t\n\x0c\r a_1Z'", TokenKind::Lower, 5, 9, b"a_1Z"),
+    (b"$a", TokenKind::Dollar, 0, 2, b"$a"),
+    (b"$$a", TokenKind::Dollar, 0, 3, b"$$a"),
+    (b"' ~'", TokenKind::Single, 0, 4, b" ~"),
+    (b"'\"'", TokenKind::Single, 0, 3, b"\""),
+    (b"'a\\'\\\\b'", TokenKind::Single, 0, 8, b"a'\\b"),
+    (b"\"\"", TokenKind::Double, 0, 2, b""),
+    (b"\"\\\"'\"", TokenKind::Double, 0, 5, b"\"'"),
+    (b"~", TokenKind::Mark, 0, 1, b"~"),
+    (b"|", TokenKind::Mark, 0, 1, b"|"),
+    (b"{", TokenKind::Mark, 0, 1, b"{"),
+];
+
 #[test]
 fn tokens_at_their_edges(rt: HostRuntime) -> Result<(), Fail> {
-    let rows: [Row; 26] = [
-        (b"01", TokenKind::Int, 0, 1, b"0"),
-        (b"1.5", TokenKind::Int, 0, 1, b"1"),
-        (b"-", TokenKind::Mark, 0, 1, b"-"),
-        (b"-0", TokenKind::Int, 0, 2, b"-0"),
-        (b"-01", TokenKind::Int, 0, 2, b"-0"),
-        (b"+", TokenKind::Mark, 0, 1, b"+"),
-        (b"+120a", TokenKind::Int, 0, 4, b"+120"),
-        (b"!", TokenKind::Mark, 0, 1, b"!"),
-        (b"! =", TokenKind::Mark, 0, 1, b"!"),
-        (b"!=", TokenKind::NotEqual, 0, 2, b"!="),
-        (b"/", TokenKind::Mark, 0, 1, b"/"),
-        (b"//", TokenKind::Mark, 0, 1, b"/"),
-        (b"/**/a", TokenKind::Lower, 4, 5, b"a"),
-        (b"/*/*/a", TokenKind::Lower, 5, 6, b"a"),
-        (b"% c\na", TokenKind::Lower, 4, 5, b"a"),
-        (b"\t\n\x0c\r a_1Z'", TokenKind::Lower, 5, 9, b"a_1Z"),
-        (b"$a", TokenKind::Dollar, 0, 2, b"$a"),
-        (b"$$a", TokenKind::Dollar, 0, 3, b"$$a"),
-        (b"' ~'", TokenKind::Single, 0, 4, b" ~"),
-        (b"'\"'", TokenKind::Single, 0, 3, b"\""),
-        (b"'a\\'\\\\b'", TokenKind::Single, 0, 8, b"a'\\b"),
-        (b"\"\"", TokenKind::Double, 0, 2, b""),
-        (b"\"\\\"'\"", TokenKind::Double, 0, 5, b"\"'"),
-        (b"~", TokenKind::Mark, 0, 1, b"~"),
-        (b"|", TokenKind::Mark, 0, 1, b"|"),
-        (b"{", TokenKind::Mark, 0, 1, b"{"),
-    ];
-    for row in &rows {
+    for row in &TOKENS {
         assert_token(&rt, rt.alloc(), 0, row)?;
     }
     assert_token(&rt, rt.alloc(), 2, &(b" 01", TokenKind::Int, 2, 3, b"1"))?;
     Ok(())
 }
 
+/// Texts, and the places where no token stands in them.
+const NO_TOKENS: [(&[u8], usize); 28] = [
+    (b"''", 0),
+    (b"'\\n'", 0),
+    (b"'\\\"'", 0),
+    (b"'a", 0),
+    (b"\"a'", 0),
+    (b"'\x1f'", 0),
+    (b"'\x7f'", 0),
+    (b"'\x80'", 0),
+    (b"'\xff'", 0),
+    (b"\"\x1f\"", 0),
+    (b"\"\x7f\"", 0),
+    (b"\"\x80\"", 0),
+    (b"\"\xff\"", 0),
+    (b"\x1f", 0),
+    (b"\x7f", 0),
+    (b"\x80", 0),
+    (b"\xff", 0),
+    (b"\x0b", 0),
+    (b"_a", 0),
+    (b"$", 0),
+    (b"$$", 0),
+    (b"$A", 0),
+    (b"$$$a", 0),
+    (b"/*/", 0),
+    (b" /**/ /* c", 6),
+    (b"% c\n\x0b", 4),
+    (b"\xef\xbb\xbfp", 0),
+    (b"\\", 0),
+];
+
+/// Texts of blanks.
+const BLANK: [&[u8]; 6] = [b"", b" ", b"/**/", b"%", b"% c", b"%\n /* % */"];
+
 #[test]
 fn no_tokens(rt: HostRuntime) -> Result<(), Fail> {
-    let bad: [(&[u8], usize); 28] = [
-        (b"''", 0),
-        (b"'\\n'", 0),
-        (b"'\\\"'", 0),
-        (b"'a", 0),
-        (b"\"a'", 0),
-        (b"'\x1f'", 0),
-        (b"'\x7f'", 0),
-        (b"'\x80'", 0),
-        (b"'\xff'", 0),
-        (b"\"\x1f\"", 0),
-        (b"\"\x7f\"", 0),
-        (b"\"\x80\"", 0),
-        (b"\"\xff\"", 0),
-        (b"\x1f", 0),
-        (b"\x7f", 0),
-        (b"\x80", 0),
-        (b"\xff", 0),
-        (b"\x0b", 0),
-        (b"_a", 0),
-        (b"$", 0),
-        (b"$$", 0),
-        (b"$A", 0),
-        (b"$$$a", 0),
-        (b"/*/", 0),
-        (b" /**/ /* c", 6),
-        (b"% c\n\x0b", 4),
-        (b"\xef\xbb\xbfp", 0),
-        (b"\\", 0),
-    ];
-    for (text, place) in bad {
-        assert_none(&rt, rt.alloc(), text, Some(place))?;
+    for (text, place) in &NO_TOKENS {
+        assert_none(&rt, rt.alloc(), text, Some(*place))?;
     }
-    let blank: [&[u8]; 6] = [b"", b" ", b"/**/", b"%", b"% c", b"%\n /* % */"];
-    for text in blank {
+    for text in &BLANK {
         assert_none(&rt, rt.alloc(), text, None)?;
     }
     Ok(())
@@ -151,22 +156,52 @@ fn assert_word(rt: &impl Abort, alloc: Global, word: &Lexeme) -> Result<(), Allo
     Ok(())
 }
 
+const ITEMS: [(&[u8], Item); 3] = [
+    (b" cnf(a.b). q", (7, 1, 10, TokensEnd::FullStop)),
+    (b"cnf(a,b,c,d(e)).", (9, 0, 16, TokensEnd::FullStop)),
+    (b"cnf(a,b,c,d(e]).", (14, 0, 16, TokensEnd::FullStop)),
+];
+
+const WORD: Lexeme<'static> = Lexeme {
+    kind: TokenKind::Lower,
+    spelling: b"cnf",
+};
+
 #[test]
 fn lists_of_tokens(rt: HostRuntime) -> Result<(), Fail> {
-    let items: [(&[u8], Item); 3] = [
-        (b" cnf(a.b). q", (7, 1, 10, TokensEnd::FullStop)),
-        (b"cnf(a,b,c,d(e)).", (9, 0, 16, TokensEnd::FullStop)),
-        (b"cnf(a,b,c,d(e]).", (14, 0, 16, TokensEnd::FullStop)),
-    ];
-    for (text, due) in items {
-        assert_item(&rt, rt.alloc(), text, due)?;
+    for (text, due) in &ITEMS {
+        assert_item(&rt, rt.alloc(), text, *due)?;
     }
-    assert_list(&rt, rt.alloc(), items[0].0, (8, TokensEnd::End))?;
-    let word = Lexeme {
-        kind: TokenKind::Lower,
-        spelling: b"cnf",
-    };
-    assert_word(&rt, rt.alloc(), &word)?;
+    assert_list(&rt, rt.alloc(), ITEMS[0].0, (8, TokensEnd::End))?;
+    assert_word(&rt, rt.alloc(), &WORD)?;
+    Ok(())
+}
+
+/// A clause whose annotations are so many brackets, one within the other.
+fn annotated(alloc: Global, brackets: usize) -> Result<Vec<u8>, AllocError> {
+    let mut text = Vec::new(alloc);
+    text.extend_from_slice(b"cnf(a,b,c,")?;
+    for _ in 0..brackets {
+        text.push(b'(')?;
+    }
+    for _ in 0..brackets {
+        text.push(b')')?;
+    }
+    text.extend_from_slice(b").")?;
+    Ok(text)
+}
+
+// Annotations with 63 open brackets are left out, and those with 64 are kept.
+#[test]
+fn brackets_of_annotations(rt: HostRuntime) -> Result<(), Fail> {
+    let items = [
+        (63, (9, 0, 138, TokensEnd::FullStop)),
+        (64, (138, 0, 140, TokensEnd::FullStop)),
+    ];
+    for (brackets, due) in items {
+        let text = annotated(rt.alloc(), brackets)?;
+        assert_item(&rt, rt.alloc(), text.as_slice(), due)?;
+    }
     Ok(())
 }
 

@@ -1,5 +1,5 @@
-//! Clauses, patterns, formulas and names that texts are, for tests. A text that is none is answered
-//! like want of memory.
+//! Clauses, patterns and formulas that texts are, for tests. A text that is none is answered like
+//! want of memory.
 #![tactic(auto)]
 
 ghost use Rattle.std.specs.Prelude.{IfOk};
@@ -10,8 +10,8 @@ ghost use Rattle.si_term.specs.Meaning.{clause_of, pattern_of};
 use si_defs::MOST_BYTES;
 use si_parse::item::{Read, next_item};
 use si_parse::pattern::{PatternKind, read_pattern};
-use si_parse::text::{read_formula, read_name};
-use si_term::{Clause, Literals, Name, Pattern};
+use si_parse::text::read_formula;
+use si_term::{Clause, Literals, Pattern};
 use std::alloc::{AllocError, Global};
 
 /// The clause at the front of a text.
@@ -38,28 +38,6 @@ pub fn pattern_in(alloc: Global, text: &[u8], kind: PatternKind) -> Result<Patte
         return Err(AllocError);
     };
     Ok(pattern)
-}
-
-/// The clause `cnf('n',axiom,p(a)).`, with these three letters for `n`, `p` and `a`.
-pub fn clause_of_letters(alloc: Global, letters: &[u8; 3]) -> Result<Clause, AllocError>
-    ensures { IfOk result (λ c. IsSoundClause (clause_of c)) }
-{
-    let mut text = *b"cnf('n',axiom,p(a)).";
-    text[5] = letters[0];
-    text[14] = letters[1];
-    text[16] = letters[2];
-    clause_in(alloc, &text)
-}
-
-/// The name that a text is.
-pub fn name_in(alloc: Global, text: &[u8]) -> Result<Name, AllocError> {
-    if text.len() > MOST_BYTES {
-        return Err(AllocError);
-    }
-    let Some(name) = read_name(alloc, text)? else {
-        return Err(AllocError);
-    };
-    Ok(name)
 }
 
 /// The literals of the formula that a text is.

@@ -174,7 +174,8 @@ impl<'a> Postings<'a> {
         self.count == 0
     }
 
-    /// The posting with this number from 0, found by a walk over the slots.
+    /// The posting with this number from 0, found by a walk over the slots; `append_to` has all of
+    /// them in one walk.
     pub fn at(&self, n: usize) -> Posting
         requires { n < length self.now }
         ensures { slice_get self.now n ≡ Some result }

@@ -1,6 +1,7 @@
 // What is done to an index.
 use crate::beside::{assert_changes, assert_same};
 use crate::nodes::{Shape, assert_numbered, assert_renumbered, assert_shapes};
+use crate::shown::assert_shown;
 use si_index::Index;
 use si_sign::ClauseStore;
 use si_texts::clause_in;
@@ -29,6 +30,8 @@ pub enum Trial<'a> {
     Indicators,
     /// Whether symbols get the numbers of those that went.
     Symbols,
+    /// Whether what is shown of hits is right.
+    Shown,
     /// Whether the trees answer as a scan does, over the clauses of a text.
     Scan(&'a [u8]),
     /// The same while these come and go.
@@ -45,6 +48,7 @@ fn assert_on(
         Trial::Shapes(rows) => assert_shapes(rt, alloc, index, rows),
         Trial::Indicators => assert_renumbered(rt, alloc, index),
         Trial::Symbols => assert_numbered(rt, alloc, index),
+        Trial::Shown => assert_shown(rt, alloc, index),
         Trial::Scan(text) => assert_same(rt, alloc, index, text),
         Trial::Changes(text) => assert_changes(rt, alloc, index, text),
     }

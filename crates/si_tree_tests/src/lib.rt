@@ -8,3 +8,5 @@ mod acts;
 mod beside;
 #[cfg(test)]
 mod nodes;
+#[cfg(test)]
+mod shown;

@@ -8,3 +8,4 @@ pub mod Headline
 pub mod Rows
 pub mod PlainWords
 pub mod EmptyWord
+pub mod LineFeeds

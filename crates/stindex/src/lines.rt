@@ -1,8 +1,11 @@
 // Where lines end, and what is held of a line that was begun.
-ghost use Rattle.std.specs.Prelude.{◌≡◌, ◌+◌, ◌<◌, ◌≤◌, ◌^◌, ◌==◌, [], ◌++◌, take, vec_len, vec_capacity, IfOk};
-ghost use Rattle.std.specs.List.{position};
+ghost use Rattle.std.specs.Prelude.{◌≡◌, ◌+◌, ◌<◌, ◌≤◌, ◌^◌, ◌==◌, [], ◌++◌, length, take, drop, vec_len, vec_capacity, IfOk};
+ghost use Rattle.std.specs.List.{list_any, position, position_or_len};
 
 use std::alloc::{AllocError, Global};
+
+/// So many bytes are looked at at once.
+const STEP: usize = 16;
 
 /// The front of the line that was begun: as many of its bytes as a line may have, and one more, by
 /// which a line that is too long is known.
@@ -58,6 +61,52 @@ impl Pending {
 
 /// The first line feed.
 pub fn line_feed(bytes: &[u8]) -> Option<usize>
+    ensures { result ≡ position (λ c. c == 10) bytes.now }
+{
+    let at = first_step(bytes);
+    match first_among(&bytes[at..]) {
+        Some(place) => Some(at + place),
+        None => None,
+    }
+}
+
+/// Where the first step with a line feed begins, or else the bytes that make no step. A line is
+/// mostly longer than a step, so to look at each byte alone costs more.
+fn first_step(bytes: &[u8]) -> usize
+    ensures within { result ≤ length bytes.now }
+    ensures none_before { position_or_len (λ c. c == 10) bytes.now
+        ≡ result + position_or_len (λ c. c == 10) (drop result bytes.now) }
+{
+    let mut at = 0;
+    while bytes.len() - at >= STEP {
+        if has_line_feed(&bytes[at..at + STEP]) {
+            return at;
+        }
+        at += STEP;
+    }
+    at
+}
+
+/// Whether a line feed is among the bytes of a step. Each is looked at, so that no branch keeps the
+/// compiler from comparing all at once.
+#[inline(always)]
+fn has_line_feed(bytes: &[u8]) -> bool
+    requires { length bytes.now ≡ 16 }
+    ensures { result ≡ list_any (λ c. c == 10) bytes.now }
+{
+    let mut step = [0; STEP];
+    step.copy_from_slice(bytes);
+    let mut found = false;
+    for i in 0..STEP {
+        if step[i] == b'\n' {
+            found = true;
+        }
+    }
+    found
+}
+
+/// The first line feed, where the bytes are few.
+fn first_among(bytes: &[u8]) -> Option<usize>
     ensures { result ≡ position (λ c. c == 10) bytes.now }
 {
     bytes.iter().position(|byte| *byte == b'\n')

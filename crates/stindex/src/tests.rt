@@ -44,7 +44,30 @@ fn run_over(
     call(alloc, &[], limits, input, (from, to), room, library)
 }
 
-/// The same where the program is called with these words.
+/// A source of these bytes.
+fn source_of(alloc: Global, bytes: &[u8], device: Device) -> Result<MemorySource, AllocError> {
+    let bytes = bytes.to_vec(alloc)?;
+    let failing = vec![in alloc; device.fails_at]?;
+    Ok(MemorySource::new(bytes, device.chunk, failing))
+}
+
+/// How a run ends that is called with these words and writes to this sink.
+fn status_of(
+    alloc: Global,
+    words: &[String],
+    limits: &Limits,
+    (input, from): (&[u8], Device),
+    sink: &mut MemorySink,
+    library: &mut MemoryLibrary,
+) -> Result<Status, AllocError> {
+    if !limits.fits() {
+        return Err(AllocError);
+    }
+    let mut source = source_of(alloc, input, from)?;
+    Ok(serve(alloc, words, limits, &mut source, sink, library))
+}
+
+/// The same, and what it wrote, where each of the two devices is owned by a call of its own.
 fn call(
     alloc: Global,
     words: &[String],
@@ -54,14 +77,9 @@ fn call(
     room: usize,
     library: &mut MemoryLibrary,
 ) -> Result<(Status, Vec<u8>), AllocError> {
-    if !limits.fits() {
-        return Err(AllocError);
-    }
-    let reads = vec![in alloc; from.fails_at]?;
-    let writes = vec![in alloc; to.fails_at]?;
-    let mut source = MemorySource::new(input.to_vec(alloc)?, from.chunk, reads);
-    let mut sink = MemorySink::new(alloc, room, to.chunk, writes)?;
-    let status = serve(alloc, words, limits, &mut source, &mut sink, library);
+    let failing = vec![in alloc; to.fails_at]?;
+    let mut sink = MemorySink::new(alloc, room, to.chunk, failing)?;
+    let status = status_of(alloc, words, limits, (input, from), &mut sink, library)?;
     Ok((status, sink.bytes().to_vec(alloc)?))
 }
 
@@ -125,7 +143,7 @@ fn wide(alloc: Global, more: u32) -> Result<Vec<u8>, AllocError> {
 }
 
 /// Inputs with their outputs under the standard limits.
-const ROWS: [(&[u8], &[u8]); 21] = [
+const ROWS: [(&[u8], &[u8]); 22] = [
     (b"", b""),
     (b"\n", b""),
     (b" \t\n\n", b""),
@@ -206,6 +224,11 @@ const ROWS: [(&[u8], &[u8]); 21] = [
         b"add cnf('a b',axiom,'p q'(\"x y\",-3)|X!='it\\'s').\ninstances lit X!=Y\ninstances term X\n",
         b"ok 1 5\n'a b':2 {?X -> X; ?Y -> 'it\\'s'}\nend 1\n'a b':1:1 {?X -> \"x y\"}\n'a b':1:2 {?X -> -3}\n'a b':2:2 {?X -> 'it\\'s'}\nend 3\n",
     ),
+    // Escapes in a quoted text, and numbers of more than one digit.
+    (
+        b"add cnf('It\\'s',axiom,q|q|q|q|q|q|q|q|q|p(a,f(b,b,b,b,b,b,b,b,b,b,b,g(\"q\\\"\\\\\")))).\ninstances term \"q\\\"\\\\\"\ninstances term g(X)\n",
+        b"ok 1 25\n'It\\'s':10:2.12.1 {}\nend 1\n'It\\'s':10:2.12 {?X -> \"q\\\"\\\\\"}\nend 1\n",
+    ),
     // Blanks between tokens may be empty, and signs part literals.
     (
         b"add/**/cnf(c,axiom,~p|q).\ninstances lit~p\ninstances lit q\ninstances lit p\n",
@@ -238,6 +261,30 @@ fn each_input_has_its_output(rt: HostRuntime) -> Result<(), Fail> {
     Ok(())
 }
 
+/// The same where a line has at most 20 bytes.
+const SHORT_LINES: [(&[u8], &[u8]); 7] = [
+    (
+        b"\nx\nadd cnf(a,axiom,p).\n\n instances lit p",
+        b"! syntax\nok 1 1\na:1 {}\nend 1\n",
+    ),
+    // As many bytes as a line may have, and one more, which hides what was read.
+    (
+        b"add cnf(a,axiom,p). \nadd cnf(b,axiom,p).  \ninstances lit p\n",
+        b"ok 1 1\n! long\na:1 {}\nend 1\n",
+    ),
+    (
+        b"remove c3456789012345\nremove c345678901234\n",
+        b"! long\n! unknown c345678901234\n",
+    ),
+    (b"                    \n", b""),
+    (b"                     \n", b"! long\n"),
+    (b"                     ", b"! long\n"),
+    (
+        b"                                                            \nx\n",
+        b"! long\n! syntax\n",
+    ),
+];
+
 #[test]
 fn chunks_and_the_length_of_a_line(rt: HostRuntime) -> Result<(), Fail> {
     let alloc = rt.alloc();
@@ -245,32 +292,10 @@ fn chunks_and_the_length_of_a_line(rt: HostRuntime) -> Result<(), Fail> {
         line: 20,
         ..Limits::standard()
     };
-    let rows: [(&[u8], &[u8]); 7] = [
-        (
-            b"\nx\nadd cnf(a,axiom,p).\n\n instances lit p",
-            b"! syntax\nok 1 1\na:1 {}\nend 1\n",
-        ),
-        // As many bytes as a line may have, and one more, which hides what was read.
-        (
-            b"add cnf(a,axiom,p). \nadd cnf(b,axiom,p).  \ninstances lit p\n",
-            b"ok 1 1\n! long\na:1 {}\nend 1\n",
-        ),
-        (
-            b"remove c3456789012345\nremove c345678901234\n",
-            b"! long\n! unknown c345678901234\n",
-        ),
-        (b"                    \n", b""),
-        (b"                     \n", b"! long\n"),
-        (b"                     ", b"! long\n"),
-        (
-            b"                                                            \nx\n",
-            b"! long\n! syntax\n",
-        ),
-    ];
     for chunk in 1..=7 {
         let from = Device { chunk, fails_at: 0 };
-        for (input, output) in rows {
-            let due = (Status::Ended, output);
+        for (input, output) in &SHORT_LINES {
+            let due = (Status::Ended, *output);
             assert_run(&rt, alloc, &limits, input, ((from, WHOLE), ROOM), due)?;
         }
     }
@@ -303,27 +328,29 @@ fn deep_and_wide_clauses(rt: HostRuntime) -> Result<(), Fail> {
     Ok(())
 }
 
+/// The most bytes of a session, an input, how the run ends, and what it writes.
+const SESSIONS: [(u64, &[u8], Status, &[u8]); 7] = [
+    (8, b"instances lit p(X)\n", Status::SessionLimit, b""),
+    (0, b"x\n", Status::SessionLimit, b""),
+    (0, b"", Status::SessionLimit, b""),
+    (2, b"x\nx\n", Status::SessionLimit, b"! syntax\n"),
+    (3, b"x\nx\n", Status::SessionLimit, b"! syntax\n"),
+    (4, b"x\nx\n", Status::SessionLimit, b"! syntax\n! syntax\n"),
+    (5, b"x\nx\n", Status::Ended, b"! syntax\n! syntax\n"),
+];
+
 #[test]
 fn a_session_has_a_limit(rt: HostRuntime) -> Result<(), Fail> {
     let alloc = rt.alloc();
-    let rows: [(u64, &[u8], Status, &[u8]); 7] = [
-        (8, b"instances lit p(X)\n", Status::SessionLimit, b""),
-        (0, b"x\n", Status::SessionLimit, b""),
-        (0, b"", Status::SessionLimit, b""),
-        (2, b"x\nx\n", Status::SessionLimit, b"! syntax\n"),
-        (3, b"x\nx\n", Status::SessionLimit, b"! syntax\n"),
-        (4, b"x\nx\n", Status::SessionLimit, b"! syntax\n! syntax\n"),
-        (5, b"x\nx\n", Status::Ended, b"! syntax\n! syntax\n"),
-    ];
-    for (session, input, end, output) in rows {
+    for (session, input, end, output) in &SESSIONS {
         let limits = Limits {
-            session,
+            session: *session,
             ..Limits::standard()
         };
         for chunk in 1..=5 {
             let from = Device { chunk, fails_at: 0 };
             let devices = ((from, WHOLE), ROOM);
-            assert_run(&rt, alloc, &limits, input, devices, (end, output))?;
+            assert_run(&rt, alloc, &limits, input, devices, (*end, *output))?;
         }
     }
     Ok(())

@@ -57,9 +57,9 @@ fn each_read_may_fail(rt: HostRuntime) -> Result<(), Fail> {
     // The last number is of no call, for the one before it meets the end.
     for fails_at in 1..=72 {
         let mut count = 0;
-        for (read, wrote) in ENDS {
-            if read < fails_at {
-                count = wrote;
+        for (read, wrote) in &ENDS {
+            if *read < fails_at {
+                count = *wrote;
             }
         }
         let end = if fails_at < 72 {
@@ -103,8 +103,8 @@ const FETCHES: [(u32, &[u8]); 2] = [
 
 #[test]
 fn each_fetch_may_fail(rt: HostRuntime) -> Result<(), Fail> {
-    for (fails_at, replies) in FETCHES {
-        let library = (FILES, fails_at);
+    for (fails_at, replies) in &FETCHES {
+        let library = (FILES, *fails_at);
         assert_output(
             &rt,
             rt.alloc(),
@@ -146,11 +146,11 @@ fn assert_cut(
 #[test]
 fn a_file_may_end_anywhere(rt: HostRuntime) -> Result<(), Fail> {
     let mut from = 0;
-    for (to, reply) in CUTS {
-        for count in from..to {
+    for (to, reply) in &CUTS {
+        for count in from..*to {
             assert_cut(&rt, rt.alloc(), count, reply)?;
         }
-        from = to;
+        from = *to;
     }
     Ok(())
 }

@@ -3,12 +3,13 @@ use super::written;
 use crate::status::Status;
 use si_session::Limits;
 use std::alloc::{AllocError, Global};
+use std::process::Abort;
 use std::test::Fail;
 
 /// Questions, each with the atom of the only clause, and the list that is answered, or nothing
 /// where the relation fails. The lists are those of `bench/model.py`, which follows the
 /// definitions, writes all terms out, and knows nothing of this program.
-const ROWS: [(&[u8], &[u8], &[u8]); 69] = [
+const ROWS: [(&[u8], &[u8], &[u8]); 78] = [
     // Ground against ground.
     (b"unifiable lit p(a)", b"p(a)", b"{}"),
     (b"unifiable lit p(a)", b"p(b)", b""),
@@ -57,6 +58,12 @@ const ROWS: [(&[u8], &[u8], &[u8]); 69] = [
     // Circles of one to four steps.
     (b"unifiable lit p(X)", b"p(g(X))", b"{?X -> g(X)}"),
     (b"unifiable lit p(X,X)", b"p(Y,g(Y))", b""),
+    (b"unifiable lit p(X,X)", b"p(a,g(a))", b""),
+    (
+        b"unifiable lit p(X,Y)",
+        b"p(Z,g(Z))",
+        b"{?Y -> g(?X); Z -> ?X}",
+    ),
     (
         b"unifiable lit p(X,g(Y))",
         b"p(g(Y),Y)",
@@ -105,6 +112,11 @@ const ROWS: [(&[u8], &[u8], &[u8]); 69] = [
         b"{Y -> f(?X); ?X -> a}",
     ),
     (b"unifiable lit p(X,Y)", b"p(a,a)", b"{?Y -> ?X; ?X -> a}"),
+    (
+        b"unifiable lit p(X,Y)",
+        b"p(a,g(a))",
+        b"{?Y -> g(?X); ?X -> a}",
+    ),
     // Parts that are written as a variable, at several depths.
     (
         b"unifiable lit p(X,Y)",
@@ -140,6 +152,16 @@ const ROWS: [(&[u8], &[u8], &[u8]); 69] = [
         b"unifiable lit p(X,Y,X)",
         b"p(f(Z,W),g(f(W,Z)),f(W,Z))",
         b"{?Y -> g(?X); ?X -> f(Z,Z); W -> Z}",
+    ),
+    (
+        b"unifiable lit p(X,X)",
+        b"p(g(Z),W)",
+        b"{W -> ?X; ?X -> g(Z)}",
+    ),
+    (
+        b"unifiable lit p(X,Y)",
+        b"p(a,g(Z))",
+        b"{?X -> a; ?Y -> g(Z)}",
     ),
     // Equal images that are no variables.
     (
@@ -231,6 +253,11 @@ const ROWS: [(&[u8], &[u8], &[u8]); 69] = [
         b"p(Z,f(Z,Z))",
         b"{?Y -> Z; ?X -> f(Z,Z)}",
     ),
+    (
+        b"instances lit p(X,g(Y))",
+        b"p(a,g(Z))",
+        b"{?X -> a; ?Y -> Z}",
+    ),
     (b"instances lit p(X,X)", b"p(Y,Z)", b""),
     (b"instances lit p(X,a)", b"p(b,Z)", b""),
     (
@@ -249,6 +276,11 @@ const ROWS: [(&[u8], &[u8], &[u8]); 69] = [
         b"p(Y,X)",
         b"{Y -> ?Z; X -> f(?Z,?Z)}",
     ),
+    (
+        b"generalizations lit p(X,g(Y))",
+        b"p(Z,W)",
+        b"{Z -> ?X; W -> g(?Y)}",
+    ),
     (b"generalizations lit p(Y,Z)", b"p(X,X)", b""),
     (
         b"generalizations lit p(g(Y),g(g(Y)))",
@@ -257,6 +289,12 @@ const ROWS: [(&[u8], &[u8], &[u8]); 69] = [
     ),
     // Variants rename.
     (b"variants lit p(X,Y)", b"p(Y,X)", b"{?X -> Y; ?Y -> X}"),
+    (
+        b"variants lit p(X,g(Y))",
+        b"p(Z,g(W))",
+        b"{?X -> Z; ?Y -> W}",
+    ),
+    (b"variants lit p(X,g(Y))", b"p(a,g(Z))", b""),
     (b"variants lit p(X,Y)", b"p(Z,Z)", b""),
     (b"variants lit p(X,X)", b"p(Y,Z)", b""),
     (
@@ -289,16 +327,29 @@ fn reply(alloc: Global, list: &[u8]) -> Result<Vec<u8>, AllocError> {
     Ok(reply)
 }
 
+/// How the run over these lines ends, and what it writes.
+fn answer(alloc: Global, question: &[u8], atom: &[u8]) -> Result<(Status, Vec<u8>), AllocError> {
+    let input = lines(alloc, question, atom)?;
+    written(alloc, &Limits::standard(), &input)
+}
+
+fn assert_list(
+    rt: &impl Abort,
+    alloc: Global,
+    (question, atom, list): (&[u8], &[u8], &[u8]),
+) -> Result<(), AllocError> {
+    let (status, bytes) = answer(alloc, question, atom)?;
+    let due = reply(alloc, list)?;
+    let after_the_add = bytes.len().saturating_sub(due.len());
+    assert_eq!(rt; status, Status::Ended);
+    assert_eq!(rt; &bytes[after_the_add..], due.as_slice(), "at {question:?}");
+    Ok(())
+}
+
 #[test]
 fn each_pair_has_its_list(rt: HostRuntime) -> Result<(), Fail> {
-    let alloc = rt.alloc();
-    for (question, atom, list) in ROWS {
-        let input = lines(alloc, question, atom)?;
-        let (status, bytes) = written(alloc, &Limits::standard(), &input)?;
-        let due = reply(alloc, list)?;
-        let behind_the_add = bytes.len().saturating_sub(due.len());
-        assert_eq!(rt; status, Status::Ended);
-        assert_eq!(rt; &bytes[behind_the_add..], due.as_slice(), "at {question:?}");
+    for row in &ROWS {
+        assert_list(&rt, rt.alloc(), *row)?;
     }
     Ok(())
 }

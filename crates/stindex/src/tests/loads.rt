@@ -204,8 +204,8 @@ pub fn assert_output(
 
 #[test]
 fn files_are_loaded_or_refused(rt: HostRuntime) -> Result<(), Fail> {
-    for (bound, files, input, output) in ROWS {
-        let library = (files, bound.fails_at());
+    for (bound, files, input, output) in &ROWS {
+        let library = (*files, bound.fails_at());
         assert_output(&rt, rt.alloc(), &bound.limits(), library, input, output)?;
     }
     Ok(())

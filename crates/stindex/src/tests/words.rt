@@ -12,6 +12,7 @@ use si_io::{MemoryLibrary, MemorySink};
 use si_session::Limits;
 use std::alloc::{AllocError, Global};
 use std::io::{Error, ErrorKind};
+use std::process::Abort;
 use std::test::Fail;
 
 const USAGE: &[u8] = b"usage: stindex [--strict] [FILE]...\n";
@@ -106,19 +107,27 @@ fn called_over(
     call(alloc, &words, limits, input, (WHOLE, WHOLE), ROOM, library)
 }
 
+/// Looks at how such a call ends, and at what it writes.
+fn assert_called(
+    rt: &impl Abort,
+    alloc: Global,
+    words: &[&str],
+    limits: &Limits,
+    (file, input): (&[u8], &[u8]),
+    due: (Status, &[u8]),
+) -> Result<(), AllocError> {
+    let (status, bytes) = called(alloc, words, limits, file, input)?;
+    assert_eq!(rt; (status, bytes.as_slice()), due);
+    Ok(())
+}
+
 #[test]
 fn words_ask_for_files_and_strict_runs(rt: HostRuntime) -> Result<(), Fail> {
     let alloc = rt.alloc();
+    let limits = Limits::standard();
+    let texts = (b"cnf(k,axiom,p).\n".as_slice(), b"stats".as_slice());
     for (words, end, due) in &CALLS {
-        let (status, bytes) = called(
-            alloc,
-            words,
-            &Limits::standard(),
-            b"cnf(k,axiom,p).\n",
-            b"stats",
-        )?;
-        assert_eq!(rt; status, *end);
-        assert_eq!(rt; bytes.as_slice(), *due);
+        assert_called(&rt, alloc, words, &limits, texts, (*end, *due))?;
     }
     Ok(())
 }
@@ -163,10 +172,8 @@ fn refusals_end_strict_runs_alone(rt: HostRuntime) -> Result<(), Fail> {
             session: *session,
             ..Limits::standard()
         };
-        let twice = b"cnf(k,axiom,p(a)).\ncnf(k,axiom,p(b)).\n";
-        let (status, bytes) = called(alloc, words, &limits, twice, input)?;
-        assert_eq!(rt; status, *end);
-        assert_eq!(rt; bytes.as_slice(), *due);
+        let twice = b"cnf(k,axiom,p(a)).\ncnf(k,axiom,p(b)).\n".as_slice();
+        assert_called(&rt, alloc, words, &limits, (twice, *input), (*end, *due))?;
     }
     Ok(())
 }
@@ -184,16 +191,18 @@ fn declined(
     Ok((status, sink.bytes().to_vec(alloc)?))
 }
 
+/// Why words couldn't be gathered, the write that fails, how the call ends, and what it writes.
+const DECLINED: [(ErrorKind, u32, Status, &[u8]); 3] = [
+    (ErrorKind::InvalidData, 0, Status::Usage, USAGE),
+    (ErrorKind::InvalidData, 1, Status::SinkFault, b""),
+    (ErrorKind::OutOfMemory, 0, Status::Memory, b""),
+];
+
 #[test]
 fn words_that_are_no_text_are_no_call(rt: HostRuntime) -> Result<(), Fail> {
-    let rows: [(ErrorKind, u32, Status, &[u8]); 3] = [
-        (ErrorKind::InvalidData, 0, Status::Usage, USAGE),
-        (ErrorKind::InvalidData, 1, Status::SinkFault, b""),
-        (ErrorKind::OutOfMemory, 0, Status::Memory, b""),
-    ];
-    for (kind, fails_at, status, text) in rows {
-        let (ended, written) = declined(rt.alloc(), kind, fails_at)?;
-        assert_eq!(rt; (ended, written.as_slice()), (status, text));
+    for (kind, fails_at, status, text) in &DECLINED {
+        let (ended, written) = declined(rt.alloc(), *kind, *fails_at)?;
+        assert_eq!(rt; (ended, written.as_slice()), (*status, *text));
     }
     Ok(())
 }

@@ -1,10 +1,10 @@
-use Rattle.std.proofs.Common.{ap, true, inl, inr, arith}
+use Rattle.std.proofs.Common.{ap, true, arith}
 use Rattle.si_defs.specs.Terms as terms
-use Rattle.si_defs.specs.declared.SymKind.TheVariants.{Word, Dollar, Number, Distinct}
+use Rattle.si_defs.specs.declared.SymKind.TheVariants.{Number, Distinct}
 use Rattle.si_lex.specs.Lexemes.{token_of}
 use Rattle.si_parse.specs.GrammarRules.{function_symbol}
 use Rattle.si_parse.proofs.ParseReads.{mark_front, mark_none, token_at}
-use Rattle.si_parse.proofs.GrammarTerms.{symbol_kind}
+use Rattle.si_parse.proofs.GrammarTerms.{symbol_kind, constant_is, head_constant}
 use Rattle.si_flat.proofs.WriterLaws.{inside_written}
 use Rattle.si_query.proofs.ReaderLaws.{closed_function, spends_closed}
 use Rattle.si_query.proofs.TermLaws.{found, variable_read, constant_read, headed_read}
@@ -76,17 +76,8 @@ term-returns-in-Double g t c =
     constant_read (g.T.SymTable.pairs c.args.table.now) c.args.tokens.now c.in-len1-up.len_at_least c.args.writer.now c.constant-in-Double.new.writer c.constant-in-Double.result Distinct (ap symbol_kind c.in-Double.is) (λ text u h. h)
     (λ i. record { kind = c.in-Double.is i; text = (token_of (token_at c.args.tokens.now 0)).text }) c.constant-in-Double.ensures
 
-pub term-returns-in-Lower : goal.term-returns-in-Lower
-term-returns-in-Lower g t c =
-    headed_read (g.T.SymTable.pairs c.args.table.now) c.args.tokens.now c.in-len1-up.len_at_least c.args.writer.now c.application.new.writer c.application.result Word (ap symbol_kind c.in-Lower.is)
-    (inl (λ i. record { kind = c.in-Lower.is i; text = (token_of (token_at c.args.tokens.now 0)).text })) c.application.ensures
-
-pub term-returns-in-Single : goal.term-returns-in-Single
-term-returns-in-Single g t c =
-    headed_read (g.T.SymTable.pairs c.args.table.now) c.args.tokens.now c.in-len1-up.len_at_least c.args.writer.now c.application-in-Single.new.writer c.application-in-Single.result Word (ap symbol_kind c.in-Single.is)
-    (inr (λ i. record { kind = c.in-Single.is i; text = (token_of (token_at c.args.tokens.now 0)).text })) c.application-in-Single.ensures
-
-pub term-returns-in-Dollar : goal.term-returns-in-Dollar
-term-returns-in-Dollar g t c =
-    headed_read (g.T.SymTable.pairs c.args.table.now) c.args.tokens.now c.in-len1-up.len_at_least c.args.writer.now c.application-in-Dollar.new.writer c.application-in-Dollar.result Dollar (ap symbol_kind c.in-Dollar.is)
-    (λ i. record { kind = c.in-Dollar.is i; text = (token_of (token_at c.args.tokens.now 0)).text }) c.application-in-Dollar.ensures
+pub term-returns-in-Some : goal.term-returns-in-Some
+term-returns-in-Some g t c =
+    let head = c.in-Some.ensures.head (token_of (token_at c.args.tokens.now 0)).text in
+    headed_read (g.T.SymTable.pairs c.args.table.now) c.args.tokens.now c.in-len1-up.len_at_least c.args.writer.now c.application.new.writer c.application.result c.in-Some.symbol
+    (constant_is c.in-Some.symbol _ _ (head_constant c.in-Some.symbol _ _ head)).0 head c.application.ensures

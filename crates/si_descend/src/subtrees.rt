@@ -63,8 +63,8 @@ fn has_clear_ends<'a>(search: &Search<'a>, node: NodeId, trail: &Trail<&'a [Cell
     are_clear(trail, &search.slots, &ends)
 }
 
-// Whether a term with a symbol at its head is wanted. The split then ends at no variable, so no further
-// look is taken.
+// Whether a term with a symbol at its head is wanted. The split then ends at no variable, so no
+// further look is taken.
 fn has_symbol(wanted: Option<Wanted>) -> bool
     ensures { result ≡ wants_symbol wanted }
 {

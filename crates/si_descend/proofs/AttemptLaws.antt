@@ -72,19 +72,20 @@ headed tree vars (terms.var (query n)) bare within below = absurd (within (query
 headed tree vars (terms.var (entry n)) bare within below = below n refl
 headed tree vars (terms.var (ind n)) bare within below = absurd (bare tt)
 
+-- what is wanted is wanted of the split
+pub splits_by : (search : Search) (key : ℕ) (pairs : Pairs) (w : Option Wanted) → IsWanted search key pairs w → SplitsBy search key w
+splits_by search key pairs None wanted = tt
+splits_by search key pairs (Some w) wanted = wanted.0
+
 module _ (search : Search) (ready : IsReady search) (key : ℕ) (node : Node Term) (has : HasNode search.tree.now key node) where
   -- ---- all children in order
-  pub all_in_order : (children : Bor (List ℕ)) (heads : Bor (List Head)) (w : Option Wanted) (pairs : Pairs) → AtNode search.tree.now key (λ n. children.now ≡ children_of n.content) → AtNode search.tree.now key (λ n. AreKnown search.tree.now n.content heads.now) → IsWanted search key pairs w → AreAttempts search key (InOrder (record { children = children; heads = heads; wanted = w }))
-  all_in_order children heads w pairs are known wanted = record {
+  pub all_in_order : (children : Bor (List ℕ)) (heads : Bor (List Head)) (w : Option Wanted) → AtNode search.tree.now key (λ n. children.now ≡ children_of n.content) → AtNode search.tree.now key (λ n. AreKnown search.tree.now n.content heads.now) → SplitsBy search key w → AreAttempts search key (InOrder (record { children = children; heads = heads; wanted = w }))
+  all_in_order children heads w are known splits = record {
     places = λ n there. (are n there, known n there);
-    splits = splits w wanted;
+    splits = splits;
     one = λ i j child p q e f. one_index children.now i j child distinct e f;
     all = λ n there child a. inl (some_index children.now child (subst (λ l. IsAmong l child) (sym (are n there)) a));
   } where
-    splits : (w : Option Wanted) → IsWanted search key pairs w → SplitsBy search key w
-    splits None wanted = tt
-    splits (Some w) wanted = wanted.0
-
     distinct : AreDistinct children.now
     distinct = subst AreDistinct (sym (are node has)) (siblings search ready key node has).distinct
 

@@ -33,6 +33,13 @@ inner_bare (leaf ps) n e = absurd (by e) where
   by : None ≡ Some n → ⊥
   by p = cc
 
+-- a node that has none has no children
+pub leaf_bare : (content : Content) → split_of content ≡ None → children_of content ≡ []
+leaf_bare (leaf ps) e = refl
+leaf_bare (inner split children) e = absurd (by e) where
+  by : Some split ≡ None → ⊥
+  by p = cc
+
 -- below a leaf there is no other node
 pub leaf_below : (search : Search) → IsReady search → (key : ℕ) (node : Node Term) → HasNode search.tree.now key node → (o : Option ℕ) → o ≡ split_of node.content → is_some o ≡ false → IsOpenAt search key → AreOpenBelow search key
 leaf_below search ready key node has o is none here q low path stands reached passes =

@@ -12,7 +12,7 @@ use Rattle.si_flat.specs.Flattened.{IsNumberedBy}
 use Rattle.si_flat.specs.declared.Cell.{Cell}
 use Rattle.si_trail.specs.Trails.{Trail}
 use Rattle.si_unify.specs.declared.slots.Slots.{Slots}
-use Rattle.si_unify.specs.Solving.{Pairs, IsInRange, is_frozen, IsSolution, AllowsSolving}
+use Rattle.si_unify.specs.Solving.{Pairs, IsInRange, IsSolution, AllowsSolving}
 use Rattle.si_legal.specs.Bindings.{indicator}
 use Rattle.si_legal.specs.Trees.{Node, Tree, HasNode, Path, IsPath}
 use Rattle.si_legal.specs.Descents.{SolvesPath}

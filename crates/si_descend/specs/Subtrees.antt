@@ -1,6 +1,6 @@
 -- Whole subtrees that are open: where all indicators that are open at a node stand for different
 -- variables that can still be anything.
-use Rattle.std.specs.Prelude.{◌≡◌, ℕ, Bool, true, false, List, [], ◌∷◌, ◌++◌, map, Option, None, Some, slice_get}
+use Rattle.std.specs.Prelude.{◌≡◌, ℕ, Bool, true, false, List, [], ◌++◌, map, Option, None, Some, slice_get}
 use Rattle.std.specs.List.{AllByRecursion}
 use Rattle.std.specs.Borrow.{Bor}
 use Rattle.si_defs.specs.Substitutions.{IsAmong, AreDistinct}
@@ -14,6 +14,7 @@ use Rattle.si_tree.specs.Reading.{AtNode, postings_of}
 use Rattle.si_unify.specs.declared.slots.Slots.{Slots}
 use Rattle.si_unify.specs.Solving.{Pairs, slot_of, variable_of, is_frozen, IsInRange, IsSolvedBy}
 use Rattle.si_unify.specs.Spots.{cell_slot}
+use Rattle.si_descend.specs.declared.heads.Wanted.{Wanted}
 
 -- ---- ends
 -- Each solution gives the indicator what it gives the variable of the slot, which is unbound. The
@@ -70,11 +71,11 @@ AreAllOpen tree key ns =
 abbrev pub HasNoPostings : Tree Term → ℕ → Type 0
 HasNoPostings tree key = AtNode tree key (λ n. postings_of n.content ≡ [])
 
--- the value begins with a symbol
-abbrev pub begins_with_symbol : List Cell → Bool
-begins_with_symbol (cell.App s a n ∷ cells) = true
-begins_with_symbol cells = false
+-- a term with a symbol at its head is wanted
+abbrev pub is_symbol : Cell → Bool
+is_symbol (cell.App s a n) = true
+is_symbol c = false
 
-abbrev pub has_symbol : Option (Bor (List Cell)) → Bool
-has_symbol None = false
-has_symbol (Some value) = begins_with_symbol value.now
+abbrev pub wants_symbol : Option Wanted → Bool
+wants_symbol None = false
+wants_symbol (Some w) = is_symbol w.first

@@ -4,15 +4,13 @@ ghost use Rattle.std.specs.Prelude.{◌≡◌, ◌≤◌, ◌<◌, ◌^◌, IfSo
 ghost use Rattle.si_tree.specs.Reading.{IsNode};
 ghost use Rattle.si_descend.specs.declared.attempts.Attempts.TheVariants.{InOrder, ByHeads};
 ghost use Rattle.si_descend.specs.Attempts.{head_at, wanted_of, AreHeadsFor, AreAttempts, IsTried};
-ghost use Rattle.si_unify.specs.Solving.{AllowsSolving};
-ghost use Rattle.si_descend.specs.Heads.{IsWanted, RulesOut};
+ghost use Rattle.si_descend.specs.Heads.{RulesOut, SplitsBy};
 ghost use Rattle.si_descend.specs.Searching.{IsReady};
 
-use crate::heads::{Wanted, asked_of, is_unwanted, keeps_variables};
+use crate::heads::{Wanted, is_unwanted, keeps_variables};
 use crate::search::Search;
 use si_defs::Relation;
 use si_flat::Cell;
-use si_trail::Trail;
 use si_tree::{Head, NodeId, head_of};
 use si_unify::Slots;
 
@@ -51,15 +49,14 @@ pub(crate) struct Lookup {
 pub(crate) fn attempts_at<'a>(
     search: &Search<'a>,
     node: NodeId,
-    trail: &Trail<&'a [Cell]>,
+    wanted: Option<Wanted>,
 ) -> Attempts<'a>
     requires node { IsNode search.now.tree.now node }
     requires ready { IsReady search.now }
-    requires solving { AllowsSolving search.now.slots trail.now.pairs trail.now.slots }
-    ensures wanted { IsWanted search.now node trail.now.pairs (wanted_of result) }
+    requires splits { SplitsBy search.now node wanted }
+    ensures wanted { wanted_of result ≡ wanted }
     ensures attempts { AreAttempts search.now node result }
 {
-    let wanted = asked_of(search, node, trail);
     let children = search.tree.children(node);
     let heads = search.tree.heads(node);
     let all = Attempts::InOrder(Siblings {

@@ -8,8 +8,9 @@ ghost use Rattle.si_descend.specs.Heads.{IsWanted};
 ghost use Rattle.si_descend.specs.Searching.{IsAboveNode, IsAtNode, IsOpenAt, Returns};
 
 use crate::attempts::{Attempts, Lookup, Siblings, attempts_at, child_by_head, child_in_order};
+use crate::heads::{Wanted, asked_of};
 use crate::search::{Search, enter};
-use crate::subtrees::{count_all, is_open_below};
+use crate::subtrees::{count_all, count_leaf, is_open_below};
 use crate::taken::Taken;
 use si_flat::Cell;
 use si_trail::Trail;
@@ -33,9 +34,9 @@ impl Counted {
         answers: 0,
     };
 
-    // Adds what another part of the search passed and found.
+    /// Adds what another part of the search passed and found.
     #[inline(always)]
-    fn add(&mut self, more: Counted)
+    pub(crate) fn add(&mut self, more: Counted)
         ensures { IsSumOf self.old more self.new }
     {
         self.passed = self.passed.saturating_add(more.passed);
@@ -75,7 +76,7 @@ pub(crate) fn count_at<'a>(
 
 /// Does the same at a node that is open. Its bindings are solved.
 #[cycle(counting)]
-#[inline(never)]
+#[inline(always)]
 fn count_open<'a>(
     search: &Search<'a>,
     node: NodeId,
@@ -89,22 +90,17 @@ fn count_open<'a>(
     ensures counted { OnOk result (CountsMore search.now node counted.old counted.new) }
     ensures returns { Returns result trail.old trail.new taken.old taken.new }
 {
-    if is_open_below(search, node, trail) {
-        counted.add(count_all(search, node));
+    let Some(_) = search.tree.split(node) else {
+        count_leaf(search, node, counted);
         return Ok(());
-    }
-    // It has children, so it has no postings of its own.
-    counted.add(Counted {
-        passed: 1,
-        answers: 0,
-    });
-    count_children(search, node, scratch, trail, taken, counted)
+    };
+    count_inner(search, node, scratch, trail, taken, counted)
 }
 
-/// Does the same for all children of a node.
+/// Does the same at a node that is no leaf. It is a call of its own, so that a leaf makes none.
 #[cycle(counting)]
-#[inline(always)]
-fn count_children<'a>(
+#[inline(never)]
+fn count_inner<'a>(
     search: &Search<'a>,
     node: NodeId,
     scratch: &mut Scratch,
@@ -113,11 +109,42 @@ fn count_children<'a>(
     counted: &mut Counted,
 ) -> Result<(), AllocError>
     requires there { IsAtNode search.now node trail.old taken.old }
+    requires opened { IsOpenAt search.now node }
+    ensures counted { OnOk result (CountsMore search.now node counted.old counted.new) }
+    ensures returns { Returns result trail.old trail.new taken.old taken.new }
+{
+    let wanted = asked_of(search, node, trail);
+    if is_open_below(search, node, wanted, trail) {
+        counted.add(count_all(search, node));
+        return Ok(());
+    }
+    // It has children, so it has no postings of its own.
+    counted.add(Counted {
+        passed: 1,
+        answers: 0,
+    });
+    count_children(search, node, wanted, scratch, trail, taken, counted)
+}
+
+/// Does the same for all children of a node.
+#[cycle(counting)]
+#[inline(always)]
+fn count_children<'a>(
+    search: &Search<'a>,
+    node: NodeId,
+    wanted: Option<Wanted>,
+    scratch: &mut Scratch,
+    trail: &mut Trail<&'a [Cell]>,
+    taken: &mut Taken,
+    counted: &mut Counted,
+) -> Result<(), AllocError>
+    requires there { IsAtNode search.now node trail.old taken.old }
+    requires wanted { IsWanted search.now node trail.old.pairs wanted }
     ensures counted { OnOk result (AtNode search.now.tree.now node (λ parent.
         CountsMoreBelow search.now (children_of parent.content) counted.old counted.new)) }
     ensures returns { Returns result trail.old trail.new taken.old taken.new }
 {
-    match attempts_at(search, node, trail) {
+    match attempts_at(search, node, wanted) {
         Attempts::InOrder(siblings) => count_in_order(
             search, node, siblings, scratch, trail, taken, counted,
         ),

@@ -12,6 +12,7 @@ ghost use Rattle.si_unify.specs.Rooms.{AreNoLongerThan, IsNoLessRoom};
 ghost use Rattle.si_descend.specs.Searching.{IsReady, IsAboveNode, IsAtNode, IsOpenAt, HasEntered, HasFound, HasFoundBelow, LacksRoom, LacksRoomBelow, NotesTaken, Returns};
 
 use crate::attempts::{Attempts, Lookup, Siblings, attempts_at, child_by_head, child_in_order};
+use crate::heads::{Wanted, asked_of};
 use crate::subtrees::{append_all, is_open_below};
 use crate::taken::Taken;
 use crate::variants::is_renaming;
@@ -153,11 +154,12 @@ fn visit_open<'a>(
     ensures keeps { IsNoLessRoom scratch.old scratch.new }
     ensures room { vec_capacity out.old ≤ vec_capacity out.new }
 {
-    if is_open_below(search, node, trail) {
+    let wanted = asked_of(search, node, trail);
+    if is_open_below(search, node, wanted, trail) {
         return append_all(search, node, out);
     }
     // It has children, so it has no postings of its own.
-    let below = visit_children(search, node, scratch, trail, taken, out)?;
+    let below = visit_children(search, node, wanted, scratch, trail, taken, out)?;
     Ok(1 + below)
 }
 
@@ -167,12 +169,14 @@ fn visit_open<'a>(
 fn visit_children<'a>(
     search: &Search<'a>,
     node: NodeId,
+    wanted: Option<Wanted>,
     scratch: &mut Scratch,
     trail: &mut Trail<&'a [Cell]>,
     taken: &mut Taken,
     out: &mut Vec<Posting>,
 ) -> Result<u64, AllocError>
     requires there { IsAtNode search.now node trail.old taken.old }
+    requires wanted { IsWanted search.now node trail.old.pairs wanted }
     ensures found { IfOk result (λ n. AtNode search.now.tree.now node (λ parent.
         HasFoundBelow search.now (children_of parent.content) out.old.items out.new.items n)) }
     ensures returns { Returns result trail.old trail.new taken.old taken.new }
@@ -183,7 +187,7 @@ fn visit_children<'a>(
     ensures keeps { IsNoLessRoom scratch.old scratch.new }
     ensures room { vec_capacity out.old ≤ vec_capacity out.new }
 {
-    match attempts_at(search, node, trail) {
+    match attempts_at(search, node, wanted) {
         Attempts::InOrder(siblings) => {
             visit_in_order(search, node, siblings, scratch, trail, taken, out)
         }

@@ -1,22 +1,20 @@
 // Whole subtrees that are open: they are walked, and no binding is solved.
-ghost use Rattle.std.specs.Prelude.{◌≡◌, ◌≤◌, IfOk, IsFalse, IsTrue, OnErr, false, vec_capacity};
+ghost use Rattle.std.specs.Prelude.{◌≡◌, ◌≤◌, IfOk, None, IsFalse, IsTrue, OnErr, false, vec_capacity};
 ghost use Rattle.si_defs.specs.Substitutions.{Grows};
-ghost use Rattle.si_tree.specs.Reading.{IsNode};
-ghost use Rattle.si_flat.specs.Cells.{ind};
-ghost use Rattle.si_trail.specs.Trails.{value_at};
-ghost use Rattle.si_unify.specs.Solving.{slot_of, AllowsSolving};
-ghost use Rattle.si_descend.specs.Counting.{HasCounted};
+ghost use Rattle.si_tree.specs.Reading.{AtNode, IsNode, split_of};
+ghost use Rattle.si_unify.specs.Solving.{AllowsSolving};
+ghost use Rattle.si_descend.specs.Counting.{CountsMore, HasCounted};
 ghost use Rattle.si_descend.specs.Searching.{AreOpenBelow, HasComeTo, HasFound, IsOpenAt, IsReady, LacksPlace};
-ghost use Rattle.si_descend.specs.Subtrees.{has_symbol, HasNoPostings};
+ghost use Rattle.si_descend.specs.Subtrees.{wants_symbol, HasNoPostings};
 
 use crate::counting::Counted;
 use crate::ends::{Ends, are_clear, find_ends_below};
+use crate::heads::Wanted;
 use crate::search::Search;
 use si_flat::Cell;
 use si_legal::Posting;
 use si_trail::Trail;
 use si_tree::NodeId;
-use si_unify::Slots;
 use std::alloc::AllocError;
 
 /// Whether all nodes below an open node are known to be open: it is a leaf, or instances or
@@ -26,6 +24,7 @@ use std::alloc::AllocError;
 pub(crate) fn is_open_below<'a>(
     search: &Search<'a>,
     node: NodeId,
+    wanted: Option<Wanted>,
     trail: &Trail<&'a [Cell]>,
 ) -> bool
     requires node { IsNode search.now.tree.now node }
@@ -36,10 +35,10 @@ pub(crate) fn is_open_below<'a>(
     ensures below { IsTrue result → AreOpenBelow search.now node }
     ensures inner { IsFalse result → HasNoPostings search.now.tree.now node }
 {
-    let Some(split) = search.tree.split(node) else {
+    let Some(_) = search.tree.split(node) else {
         return true;
     };
-    if search.slots.freeze_query || has_symbol(trail, &search.slots, split) {
+    if search.slots.freeze_query || has_symbol(wanted) {
         return false;
     }
     has_clear_ends(search, node, trail)
@@ -64,14 +63,14 @@ fn has_clear_ends<'a>(search: &Search<'a>, node: NodeId, trail: &Trail<&'a [Cell
     are_clear(trail, &search.slots, &ends)
 }
 
-// Whether an indicator is bound to a term that is no variable. It then ends at none, so no further
-// look is taken.
-fn has_symbol(trail: &Trail<&[Cell]>, slots: &Slots, indicator: u32) -> bool
-    ensures { result ≡ has_symbol (value_at trail.now.pairs (slot_of slots.now (ind indicator))) }
+// Whether a term with a symbol at its head is wanted. The split then ends at no variable, so no
+// further look is taken.
+fn has_symbol(wanted: Option<Wanted>) -> bool
+    ensures { result ≡ wants_symbol wanted }
 {
-    match trail.get(slots.query as usize + slots.entry as usize + indicator as usize) {
-        Some(value) => match value.first() {
-            Some(Cell::App { .. }) => true,
+    match wanted {
+        Some(asked) => match asked.first {
+            Cell::App { .. } => true,
             _ => false,
         },
         None => false,
@@ -101,6 +100,22 @@ pub(crate) fn append_all(
         below += append_all(search, *child, out)?;
     }
     Ok(1 + below)
+}
+
+/// Adds an open leaf and its postings to what was counted before.
+#[inline(always)]
+pub(crate) fn count_leaf(search: &Search<'_>, leaf: NodeId, counted: &mut Counted)
+    requires node { IsNode search.now.tree.now leaf }
+    requires leaf { AtNode search.now.tree.now leaf (λ n. split_of n.content ≡ None) }
+    requires ready { IsReady search.now }
+    requires opened { IsOpenAt search.now leaf }
+    ensures { CountsMore search.now leaf counted.old counted.new }
+{
+    let own = search.tree.postings(leaf).len();
+    counted.add(Counted {
+        passed: 1,
+        answers: own as u64,
+    });
 }
 
 /// Counts all nodes and postings below a node or at it, where all nodes there are open.

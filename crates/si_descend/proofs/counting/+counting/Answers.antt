@@ -8,7 +8,7 @@ use Rattle.si_descend.proofs.CountLaws.{more_closed, more_open, more_none, more_
 use Rattle.si_descend.proofs.Depths.{child_deeper, falls}
 use Rattle.si_descend.proofs.Visiting.{goes_down}
 use Rattle.si_descend.specs.declared.attempts.Attempts.TheVariants.{InOrder, ByHeads}
-use Rattle.si_descend.proofs.AttemptLaws.{none_tried, one_not_tried, tried_child}
+use Rattle.si_descend.proofs.AttemptLaws.{none_tried, one_not_tried, splits_by, tried_child}
 use Rattle.si_descend.proofs.counting.+counting.Goals as goal
 
 pub count_at-returns-then-not-branch-clause-counted : goal.count_at-returns-then-not-branch-clause-counted
@@ -17,8 +17,14 @@ count_at-returns-then-not-branch-clause-counted t c =
     (subst (HasEntered c.args.search.now c.args.node c.enter.new.trail.pairs) c.if-not-branch.true c.in_ok-enter.ensures.enters)
     c.args.counted.now
 
-pub count_open-returns-clause-counted : goal.count_open-returns-clause-counted
-count_open-returns-clause-counted t c =
+pub count_open-count_leaf-requires-clause-leaf : goal.count_open-count_leaf-requires-clause-leaf
+count_open-count_leaf-requires-clause-leaf t c node has = sym (c.split.ensures node has) ∙ c.in_default.is
+
+pub count_children-attempts_at-requires-clause-splits : goal.count_children-attempts_at-requires-clause-splits
+count_children-attempts_at-requires-clause-splits t c = splits_by c.args.search.now c.args.node c.args.trail.now.pairs c.args.wanted c.requires.wanted
+
+pub count_inner-returns-clause-counted : goal.count_inner-returns-clause-counted
+count_inner-returns-clause-counted t c =
     on_ok_weaker c.count_children.result
     (λ below.
     more_open c.args.search.now c.requires.there.searching.ready c.args.node c.requires.there.node.0 c.requires.there.node.1 c.requires.opened

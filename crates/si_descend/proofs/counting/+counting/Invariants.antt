@@ -7,19 +7,22 @@ use Rattle.si_descend.proofs.AttemptLaws.{IsUnderway}
 use Rattle.si_descend.proofs.counting.+counting.Given as goal
 
 abbrev pub decreases-count_at : goal.decreases-count_at
-decreases-count_at l = 4 * (node_count l.search.now.tree.now - depth l.search.now.tree.now l.node) + 3
+decreases-count_at l = 5 * (node_count l.search.now.tree.now - depth l.search.now.tree.now l.node) + 4
 
 abbrev pub decreases-count_open : goal.decreases-count_open
-decreases-count_open l = 4 * (node_count l.search.now.tree.now - depth l.search.now.tree.now l.node) + 2
+decreases-count_open l = 5 * (node_count l.search.now.tree.now - depth l.search.now.tree.now l.node) + 3
+
+abbrev pub decreases-count_inner : goal.decreases-count_inner
+decreases-count_inner l = 5 * (node_count l.search.now.tree.now - depth l.search.now.tree.now l.node) + 2
 
 abbrev pub decreases-count_children : goal.decreases-count_children
-decreases-count_children l = 4 * (node_count l.search.now.tree.now - depth l.search.now.tree.now l.node) + 1
+decreases-count_children l = 5 * (node_count l.search.now.tree.now - depth l.search.now.tree.now l.node) + 1
 
 abbrev pub decreases-count_in_order : goal.decreases-count_in_order
-decreases-count_in_order l = 4 * (node_count l.search.now.tree.now - depth l.search.now.tree.now l.node)
+decreases-count_in_order l = 5 * (node_count l.search.now.tree.now - depth l.search.now.tree.now l.node)
 
 abbrev pub decreases-count_by_heads : goal.decreases-count_by_heads
-decreases-count_by_heads l = 4 * (node_count l.search.now.tree.now - depth l.search.now.tree.now l.node)
+decreases-count_by_heads l = 5 * (node_count l.search.now.tree.now - depth l.search.now.tree.now l.node)
 
 pub record Invariant (counted pairs slots taken : Type 0) : Type 0 where
   pub counted_so_far : counted

@@ -10,7 +10,7 @@ use Rattle.si_descend.proofs.Below.{IsChildOf}
 use Rattle.si_descend.proofs.Depths.{child_deeper, falls}
 use Rattle.si_descend.proofs.Visiting.{goes_down, own_none, same_trail, found_closed, found_open, none_yet, few_below, few_found, found_grows}
 use Rattle.si_descend.specs.declared.attempts.Attempts.TheVariants.{InOrder, ByHeads}
-use Rattle.si_descend.proofs.AttemptLaws.{IsUnderway, none_tried, one_not_tried, tried_child, found_more, next_fits, found_all}
+use Rattle.si_descend.proofs.AttemptLaws.{IsUnderway, none_tried, one_not_tried, splits_by, tried_child, found_more, next_fits, found_all}
 use Rattle.si_unify.proofs.Answering.{front_of}
 use Rattle.si_unify.proofs.Comparing.{grows_on}
 use Rattle.si_descend.proofs.search.+searching.Goals as goal
@@ -35,6 +35,9 @@ visit-returns-clause-returns t c =
           (c.undo-3.ensures.pairs ∙ ap (λ taken. take c.mark-taken_mark.result taken.pairs) c.in_ok-count.ensures.returns.noted ∙ ap (λ n. take n c.enter.new.taken.pairs) c.mark-taken_mark.ensures ∙ front_of c.args.taken.now.pairs c.enter.new.taken.pairs c.enter.ensures.taken_grows);
       table = c.undo-3.ensures.slots ∙ c.in_ok-count.ensures.returns.table ∙ c.enter.ensures.taken_slots;
     }
+
+pub visit_children-attempts_at-requires-clause-splits : goal.visit_children-attempts_at-requires-clause-splits
+visit_children-attempts_at-requires-clause-splits t c = splits_by c.args.search.now c.args.node c.args.trail.now.pairs c.args.wanted c.requires.wanted
 
 pub visit_open-returns-clause-found : goal.visit_open-returns-clause-found
 visit_open-returns-clause-found t c =

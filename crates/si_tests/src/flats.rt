@@ -1,12 +1,15 @@
-// Literals as flat terms, over a table of one symbol.
-ghost use Rattle.std.specs.Prelude.{◌≡◌, [], ◌∷◌};
+// Literals as flat terms, over a table of one symbol, made of terms and read from tokens.
+ghost use Rattle.std.specs.Prelude.{◌≡◌, ◌≤◌, [], ◌∷◌, length};
 ghost use Rattle.si_defs.specs.Clauses.{IsSoundPattern};
 ghost use Rattle.si_defs.specs.Symbols.{same_symbol};
+ghost use Rattle.si_defs.specs.declared.TheConstants.{MOST_BYTES};
 ghost use Rattle.si_term.specs.Meaning.{pattern_of};
 ghost use Rattle.si_term.specs.Terms.{symbol_of};
 
 use si_flat::{Cell, flatten_entry};
+use si_lex::lex;
 use si_parse::pattern::PatternKind;
+use si_query::read_flat;
 use si_term::{Pattern, Side, Sym, SymKind, SymTable, Text};
 use si_texts::pattern_in;
 use std::alloc::{AllocError, Global};
@@ -105,5 +108,33 @@ fn literals_have_their_cells(rt: HostRuntime) -> Result<(), Fail> {
     for (text, due) in &LITERALS {
         assert_literal(&rt, rt.alloc(), text, due)?;
     }
+    Ok(())
+}
+
+/// What is read of a literal straight from its tokens, and nothing where `due` is empty.
+fn assert_read(rt: &impl Abort, alloc: Global, text: &[u8], due: &[Cell]) -> Result<(), AllocError>
+    requires { length text.now ≤ MOST_BYTES }
+{
+    let table = table(alloc)?;
+    let lexing = lex(alloc, text, 0)?;
+    match read_flat(alloc, &table, lexing.tokens.as_slice(), PatternKind::Lit)? {
+        Some(query) => assert_eq!(rt; query.flat.cells(), due),
+        None => assert!(rt; due.is_empty()),
+    }
+    Ok(())
+}
+
+fn cell(sym: u32, len: u32) -> Cell {
+    Cell::App { sym, arity: 2, len }
+}
+
+#[test]
+fn literals_read_from_their_tokens(rt: HostRuntime) -> Result<(), Fail> {
+    let same = [cell(5, 3), Cell::Query(0), Cell::Query(0)];
+    assert_read(&rt, rt.alloc(), b"~p(X,X)", &same)?;
+    let apart = [cell(4, 3), Cell::Query(0), Cell::Query(1)];
+    assert_read(&rt, rt.alloc(), b"p(X,Y)", &apart)?;
+    assert_read(&rt, rt.alloc(), b"p(X)", &[])?;
+    assert_read(&rt, rt.alloc(), b"p(X,Y)p", &[])?;
     Ok(())
 }

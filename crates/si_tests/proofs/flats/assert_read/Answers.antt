@@ -1,0 +1,7 @@
+use Rattle.std.proofs.Common.{ap, length, arith}
+use Rattle.si_parse.proofs.ReadingLaws.{text_few}
+use Rattle.si_tests.proofs.flats.assert_read.Goals as goal
+
+pub read_flat-requires : goal.read_flat-requires
+read_flat-requires g c =
+    omega (arith, ap length c.as_slice.ensures.value, text_few c.args.text.now c.in_ok-lexing.lexing c.in_ok-lexing.ensures.read, c.requires)

@@ -6,10 +6,13 @@ use std::alloc::{AllocError, Global};
 use std::process::Abort;
 use std::test::Fail;
 
-/// Questions, each with the atom of the only clause, and the list that is answered, or nothing
-/// where the relation fails. The lists are those of `bench/model.py`, which follows the
-/// definitions, writes all terms out, and knows nothing of this program.
-const ROWS: [(&[u8], &[u8], &[u8]); 78] = [
+/// A question, the atom of the only clause, and the list that is answered, or nothing where the
+/// relation fails. The lists are those of `bench/model.py`, which follows the definitions, writes
+/// all terms out, and knows nothing of this program.
+type Row<'a> = (&'a [u8], &'a [u8], &'a [u8]);
+
+/// Ground terms, and variables that lead to others.
+const CHAINS: [Row; 18] = [
     // Ground against ground.
     (b"unifiable lit p(a)", b"p(a)", b"{}"),
     (b"unifiable lit p(a)", b"p(b)", b""),
@@ -55,7 +58,10 @@ const ROWS: [(&[u8], &[u8], &[u8]); 78] = [
         b"p(U,V,V,a)",
         b"{?Y -> ?X; U -> ?X; V -> ?X; ?X -> a}",
     ),
-    // Circles of one to four steps.
+];
+
+/// Circles of one to four steps.
+const CIRCLES: [Row; 11] = [
     (b"unifiable lit p(X)", b"p(g(X))", b"{?X -> g(X)}"),
     (b"unifiable lit p(X,X)", b"p(Y,g(Y))", b""),
     (b"unifiable lit p(X,X)", b"p(a,g(a))", b""),
@@ -95,6 +101,10 @@ const ROWS: [(&[u8], &[u8], &[u8]); 78] = [
         b"p(g(Z),g(W),g(V),g(R),W,V,R,S)",
         b"{W -> ?X; V -> ?Y; R -> ?T; S -> ?U; ?U -> g(?T); ?T -> g(?Y); ?Y -> g(?X); ?X -> g(Z)}",
     ),
+];
+
+/// Constants and parts that are written as a variable.
+const PARTS: [Row; 14] = [
     // Constants that are written as a variable.
     (
         b"unifiable lit p(X,f(X))",
@@ -163,6 +173,10 @@ const ROWS: [(&[u8], &[u8], &[u8]); 78] = [
         b"p(a,g(Z))",
         b"{?X -> a; ?Y -> g(Z)}",
     ),
+];
+
+/// Equal images, and the order of what is bound.
+const IMAGES: [Row; 16] = [
     // Equal images that are no variables.
     (
         b"unifiable lit p(X,Y)",
@@ -246,6 +260,10 @@ const ROWS: [(&[u8], &[u8], &[u8]); 78] = [
         b"p(W,g(Z),a)",
         b"{?Z -> a; W -> f(?X,?Y); ?Y -> g(Z)}",
     ),
+];
+
+/// Lists of the other relations.
+const MATCHES: [Row; 19] = [
     // Instances bind each variable of the pattern, in the order of first occurrence.
     (b"instances lit p(X,Y)", b"p(a,a)", b"{?X -> a; ?Y -> a}"),
     (
@@ -336,7 +354,7 @@ fn answer(alloc: Global, question: &[u8], atom: &[u8]) -> Result<(Status, Vec<u8
 fn assert_list(
     rt: &impl Abort,
     alloc: Global,
-    (question, atom, list): (&[u8], &[u8], &[u8]),
+    (question, atom, list): Row<'_>,
 ) -> Result<(), AllocError> {
     let (status, bytes) = answer(alloc, question, atom)?;
     let due = reply(alloc, list)?;
@@ -346,10 +364,39 @@ fn assert_list(
     Ok(())
 }
 
-#[test]
-fn each_pair_has_its_list(rt: HostRuntime) -> Result<(), Fail> {
-    for row in &ROWS {
-        assert_list(&rt, rt.alloc(), *row)?;
+fn assert_lists(rt: &impl Abort, alloc: Global, rows: &[Row<'_>]) -> Result<(), AllocError> {
+    for row in rows {
+        assert_list(rt, alloc, *row)?;
     }
+    Ok(())
+}
+
+#[test]
+fn chains_have_their_lists(rt: HostRuntime) -> Result<(), Fail> {
+    assert_lists(&rt, rt.alloc(), &CHAINS)?;
+    Ok(())
+}
+
+#[test]
+fn circles_have_their_lists(rt: HostRuntime) -> Result<(), Fail> {
+    assert_lists(&rt, rt.alloc(), &CIRCLES)?;
+    Ok(())
+}
+
+#[test]
+fn images_have_their_lists(rt: HostRuntime) -> Result<(), Fail> {
+    assert_lists(&rt, rt.alloc(), &IMAGES)?;
+    Ok(())
+}
+
+#[test]
+fn parts_have_their_lists(rt: HostRuntime) -> Result<(), Fail> {
+    assert_lists(&rt, rt.alloc(), &PARTS)?;
+    Ok(())
+}
+
+#[test]
+fn matches_have_their_lists(rt: HostRuntime) -> Result<(), Fail> {
+    assert_lists(&rt, rt.alloc(), &MATCHES)?;
     Ok(())
 }

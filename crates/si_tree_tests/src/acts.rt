@@ -1,5 +1,6 @@
 // What is done to an index.
 use crate::beside::{assert_changes, assert_same};
+use crate::legal::{Course, assert_course};
 use crate::nodes::{Shape, assert_numbered, assert_renumbered, assert_shapes};
 use crate::shown::assert_shown;
 use si_index::Index;
@@ -36,6 +37,8 @@ pub enum Trial<'a> {
     Scan(&'a [u8]),
     /// The same while these come and go.
     Changes(&'a [u8]),
+    /// Whether the trees are legal after each command of a course.
+    Legal(Course<'a>),
 }
 
 fn assert_on(
@@ -51,6 +54,7 @@ fn assert_on(
         Trial::Shown => assert_shown(rt, alloc, index),
         Trial::Scan(text) => assert_same(rt, alloc, index, text),
         Trial::Changes(text) => assert_changes(rt, alloc, index, text),
+        Trial::Legal(course) => assert_course(rt, alloc, index, course),
     }
 }
 

@@ -100,7 +100,7 @@ fn assert_clause(rt: &impl Abort, alloc: Global, index: &Index, at: u32) -> Resu
 }
 
 /// The text from the line with this number on, from 0.
-fn from_line(text: &[u8], line: u32) -> &[u8] {
+pub fn from_line(text: &[u8], line: u32) -> &[u8] {
     let mut left = line;
     for (place, byte) in text.iter().enumerate() {
         if left == 0 {

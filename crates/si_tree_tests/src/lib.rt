@@ -7,6 +7,14 @@ mod acts;
 #[cfg(test)]
 mod beside;
 #[cfg(test)]
+mod kept;
+#[cfg(test)]
+mod legal;
+#[cfg(test)]
 mod nodes;
+#[cfg(test)]
+mod rules;
+#[cfg(test)]
+mod seen;
 #[cfg(test)]
 mod shown;

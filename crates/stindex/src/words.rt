@@ -54,13 +54,13 @@ fn matches_in<'a>(alloc: Global, words: &'a [String]) -> Result<ArgMatches<'a>, 
     let strict = Arg::new(alloc, "strict")
         .long("strict")
         .action(ArgAction::SetTrue);
+    let command = Command::new(alloc, "stindex")
+        .no_binary_name(true)
+        .arg(strict)?;
     let file = Arg::new(alloc, "FILE")
         .num_args(..)
         .action(ArgAction::Append);
-    let command = Command::new(alloc, "stindex")
-        .no_binary_name(true)
-        .arg(strict)?
-        .arg(file)?;
+    let command = command.arg(file)?;
     command.try_get_matches_from(words)
 }
 

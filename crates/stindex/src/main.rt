@@ -38,7 +38,9 @@ fn main(rt: HostRuntime) -> ExitCode {
 
 /// The words that the program was called with, without its own name.
 fn call_words(rt: &HostRuntime) -> io::Result<Vec<String>> {
-    let words = args(rt)?.skip(1).collect(rt.alloc())?;
+    let mut words = args(rt)?;
+    let _ = words.next();
+    let words = words.collect(rt.alloc())?;
     Ok(words)
 }
 

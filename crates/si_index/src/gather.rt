@@ -1,5 +1,5 @@
 // The entries that an engine answered, each with its place and its list.
-ghost use Rattle.std.specs.Prelude.{◌≡◌, ℕ, ◌+◌, IfOk, OnOk, map};
+ghost use Rattle.std.specs.Prelude.{◌≡◌, ℕ, ◌+◌, [], IfOk, OnOk, map};
 ghost use Rattle.std.specs.List.{AllByRecursion, AllZip};
 ghost use Rattle.si_defs.specs.Entries.{Placed};
 ghost use Rattle.si_term.specs.Meaning.{entry_of};
@@ -35,13 +35,6 @@ pub(crate) struct Match<'a> {
 pub(crate) struct Matches<'a> {
     pub(crate) found: Vec<Match<'a>>,
     pub(crate) leaves: Vec<Leaf>,
-}
-
-/// What was gathered, and the memory that it works in.
-#[derive(Drop)]
-struct Gathered<'a> {
-    workspace: Workspace<'a>,
-    matches: Matches<'a>,
 }
 
 /// A walk through the entries of a clause.
@@ -122,16 +115,17 @@ fn add<'a>(
     walk: &ClauseWalk<'a>,
     entry: Entry<'a>,
     leaf: usize,
-    gathered: &mut Gathered<'a>,
+    workspace: &mut Workspace<'a>,
+    matches: &mut Matches<'a>,
 ) -> Result<(), AllocError>
     requires ready { IsReady search.now }
     requires query { query.now ≡ search.now.query.flat }
     requires walk { IsWalk search.now.slots walk.now }
     requires known { IsKnownEntry (numbers_of search.now) (entry_of entry) }
     requires stands { Stands search.now.relation (pattern_in search.now) (entry_of entry) }
-    requires leaf { IsOfLeaf search.now gathered.old.matches.leaves.items leaf (entry_of entry) }
-    requires made { AreMade search.now gathered.old.matches.leaves.items }
-    requires each { AreMatches search.now gathered.old.matches }
+    requires leaf { IsOfLeaf search.now matches.old.leaves.items leaf (entry_of entry) }
+    requires made { AreMade search.now matches.old.leaves.items }
+    requires each { AreMatches search.now matches.old }
     ensures adds { OnOk result (Adds search.now (
       walk.now.position,
       record {
@@ -139,25 +133,17 @@ fn add<'a>(
         place = place_in walk.now.entries;
       },
     )
-        gathered.old.matches gathered.new.matches) }
-    ensures made { OnOk result (AreMade search.now gathered.new.matches.leaves.items) }
-    ensures stay { OnOk result (StayMade gathered.old.matches.leaves.items
-        gathered.new.matches.leaves.items) }
+        matches.old matches.new) }
+    ensures made { OnOk result (AreMade search.now matches.new.leaves.items) }
+    ensures stay { OnOk result (StayMade matches.old.leaves.items matches.new.leaves.items) }
 {
-    make_list(
-        search,
-        query,
-        &mut gathered.workspace,
-        &mut gathered.matches.leaves,
-        leaf,
-        entry,
-    )?;
+    make_list(search, query, workspace, &mut matches.leaves, leaf, entry)?;
     let hit = Hit {
         clause: walk.position,
         place: walk.entries.place()?,
     };
-    let names = search.names(&mut gathered.workspace, entry)?;
-    gathered.matches.found.push(Match {
+    let names = search.names(workspace, entry)?;
+    matches.found.push(Match {
         hit,
         clause: walk.clause,
         entry,
@@ -208,21 +194,81 @@ pub(crate) fn gather<'a>(
     ensures hits { IfOk result (λ ms. AllZip (IsHitAt search.now.slots) places.now
         (map hit_of ms.found.items)) }
 {
-    let mut gathered = Gathered {
-        workspace: Workspace::new(search.alloc),
-        matches: Matches {
-            found: Vec::with_capacity(search.alloc, places.len())?,
-            leaves,
-        },
+    let mut matches = Matches {
+        found: Vec::with_capacity(search.alloc, places.len())?,
+        leaves,
     };
+    gather_into(search, places, &mut matches)?;
+    Ok(matches)
+}
+
+/// Adds the entries that stand here, where none was found yet.
+fn gather_into<'a>(
+    search: &Search<'a>,
+    places: &[Wanted],
+    matches: &mut Matches<'a>,
+) -> Result<(), AllocError>
+    requires ready { IsReady search.now }
+    requires unmade { AreUnmade matches.old.leaves.items }
+    requires stand { AllByRecursion (IsStandingAt search.now matches.old.leaves.items) places.now }
+    requires rise { Rise places.now }
+    requires none { matches.old.found.items ≡ [] }
+    ensures each { OnOk result (AreMatches search.now matches.new) }
+    ensures hits { OnOk result (AllZip (IsHitAt search.now.slots) places.now
+        (map hit_of matches.new.found.items)) }
+{
+    let mut workspace = Workspace::new(search.alloc);
+    gather_in(search, places, &mut workspace, matches)
+}
+
+/// The same, in this memory.
+fn gather_in<'a>(
+    search: &Search<'a>,
+    places: &[Wanted],
+    workspace: &mut Workspace<'a>,
+    matches: &mut Matches<'a>,
+) -> Result<(), AllocError>
+    requires ready { IsReady search.now }
+    requires unmade { AreUnmade matches.old.leaves.items }
+    requires stand { AllByRecursion (IsStandingAt search.now matches.old.leaves.items) places.now }
+    requires rise { Rise places.now }
+    requires none { matches.old.found.items ≡ [] }
+    ensures each { OnOk result (AreMatches search.now matches.new) }
+    ensures hits { OnOk result (AllZip (IsHitAt search.now.slots) places.now
+        (map hit_of matches.new.found.items)) }
+{
     let Some(first) = places.first() else {
-        return Ok(gathered.matches);
+        return Ok(());
     };
     let query = CountedQuery::new(search.query.flat.cells());
     let mut walk = ClauseWalk::new(search, first.slot);
+    walk_through(search, &query, places, &mut walk, workspace, matches)
+}
+
+/// The same, by a walk that begins.
+fn walk_through<'a>(
+    search: &Search<'a>,
+    query: &CountedQuery<'_>,
+    places: &[Wanted],
+    walk: &mut ClauseWalk<'a>,
+    workspace: &mut Workspace<'a>,
+    matches: &mut Matches<'a>,
+) -> Result<(), AllocError>
+    requires ready { IsReady search.now }
+    requires query { query.now ≡ search.now.query.flat }
+    requires walk { IsWalk search.now.slots walk.old }
+    requires next { walk.old.next ≡ 0 }
+    requires unmade { AreUnmade matches.old.leaves.items }
+    requires stand { AllByRecursion (IsStandingAt search.now matches.old.leaves.items) places.now }
+    requires rise { Rise places.now }
+    requires none { matches.old.found.items ≡ [] }
+    ensures each { OnOk result (AreMatches search.now matches.new) }
+    ensures hits { OnOk result (AllZip (IsHitAt search.now.slots) places.now
+        (map hit_of matches.new.found.items)) }
+{
     for place in places {
         let entry = walk.go_to(search, *place)?;
-        add(search, &query, &walk, entry, place.leaf, &mut gathered)?;
+        add(search, query, walk, entry, place.leaf, workspace, matches)?;
     }
-    Ok(gathered.matches)
+    Ok(())
 }

@@ -94,12 +94,14 @@ impl Index {
         requires { limit ≤ MOST_OCCURRENCES }
         ensures { IfOk result (IsEmpty (limited_to limit)) }
     {
+        // Before the others, which would have to be dropped where it fails.
+        let trees = Trees::new(alloc)?;
         Ok(Index {
             alloc,
             limit,
             clauses: KeyedList::new(alloc),
             register: Register::new(alloc),
-            trees: Trees::new(alloc)?,
+            trees,
         })
     }
 

@@ -6,8 +6,8 @@ use Rattle.si_index.proofs.index.Index.new.Goals as goal
 
 pub invariant_of-result : goal.invariant_of-result
 invariant_of-result c =
-    let none = ap (λ l. l.items) c.new.ensures in (
-      none_kept (limited_to c.args.limit) c.new.result.items c.new-2.result c.requires none c.new-2.ensures.names c.new-2.ensures.signature c.new-2.ensures.entries,
-      none_held c.new.result.items c.new-2.result c.in_ok-new.field-0 none c.new-2.ensures.signature c.in_ok-new.ensures,
+    let none = ap (λ l. l.items) c.new-2.ensures in (
+      none_kept (limited_to c.args.limit) c.new-2.result.items c.new-3.result c.requires none c.new-3.ensures.names c.new-3.ensures.signature c.new-3.ensures.entries,
+      none_held c.new-2.result.items c.new-3.result c.in_ok-trees.trees none c.new-3.ensures.signature c.in_ok-trees.ensures,
       λ key d row a b. absurd (subst (λ l. IsAmong l (key, d)) none a),
     )

@@ -1,48 +1,35 @@
 use Rattle.std.proofs.Common.{List, map, take, sym, subst}
+use Rattle.std.proofs.lemmas.List.{take_all}
 use Rattle.std.specs.List.{AllByRecursion, AllZip}
-use Rattle.si_defs.specs.Entries.{Placed, pattern_entry}
-use Rattle.si_defs.proofs.ListLaws.{all_get, all_got}
+use Rattle.si_defs.specs.Entries.{Placed}
+use Rattle.si_defs.proofs.ListLaws.{all_get}
 use Rattle.si_term.specs.Meaning.{entry_of}
-use Rattle.si_flat.specs.declared.Owner.TheVariants.{Query}
-use Rattle.si_flat.specs.Flattened.{query_numbers}
-use Rattle.si_form.specs.Answers.{AreNumbered}
 use Rattle.si_entries.specs.Walks.{place_in}
 use Rattle.si_index.specs.Gathering.{IsHitAt, IsStandingAt}
-use Rattle.si_index.specs.Searching.{IsMatch, hit_of, numbers_of, pattern_in}
+use Rattle.si_index.specs.Searching.{IsMatch, hit_of}
 use Rattle.si_index.specs.declared.gather.Match.{Match}
 use Rattle.si_index.specs.declared.wanted.Wanted.{Wanted}
-use Rattle.si_index.proofs.FlatLaws.{flat_is_numbered}
-use Rattle.si_index.proofs.GatherLaws.{ahead_first, ahead_next, adds_hit, hit_known, hit_place, hit_stands, hit_of_leaf, places_stay}
+use Rattle.si_index.proofs.GatherLaws.{ahead_first, ahead_next, adds_hit, hit_known, hit_stands, hit_of_leaf, places_stay}
 use Rattle.si_index.proofs.LeafLaws.{none_made}
-use Rattle.si_index.proofs.gather.gather.Goals as goal
+use Rattle.si_index.proofs.gather.walk_through.Goals as goal
 
 pub loop-place-init : goal.loop-place-init
 loop-place-init c =
     let s = c.args.search.now in
-    let none = sym c.in_ok-with_capacity.ensures.items in
+    let leaves = c.args.matches.now.leaves.items in
+    let none = sym c.requires.none in
     record {
-      walk = c.new-walk.ensures.walk;
-      ahead = ahead_first c.new-walk.result c.args.places.now c.new-walk.ensures.next;
+      walk = c.requires.walk;
+      ahead = ahead_first c.args.walk.now c.args.places.now c.requires.next;
       stand = c.requires.stand;
-      made = none_made s c.args.leaves.items c.requires.unmade;
-      each = subst (AllByRecursion (IsMatch s c.args.leaves.items)) none tt;
+      made = none_made s leaves c.requires.unmade;
+      each = subst (AllByRecursion (IsMatch s leaves)) none tt;
       hits = subst (λ (ms : List Match). AllZip (IsHitAt s.slots) (take 0 c.args.places.now) (map hit_of ms)) none tt;
     }
 
-pub new-query-requires-clause-numbered : goal.new-query-requires-clause-numbered
-new-query-requires-clause-numbered c =
-    let s = c.args.search.now in
-    subst (AreNumbered Query) (sym c.cells.ensures.cells)
-    (flat_is_numbered (query_numbers (numbers_of s) s.query.extra) Query (pattern_entry (pattern_in s)) s.query.flat c.requires.ready.flat.flat)
-
-pub new-walk-requires-clause-there : goal.new-walk-requires-clause-there
-new-walk-requires-clause-there c =
-    let here = all_got (IsStandingAt c.args.search.now c.args.leaves.items) c.args.places.now 0 c.in-Some.first.now c.requires.stand (sym c.in-Some.ensures.value) in
-    hit_place c.args.search.now _ here.hit c.requires.ready here.at
-
 pub go_to-requires-clause-there : goal.go_to-requires-clause-there
 go_to-requires-clause-there c =
-    let here = all_get (IsStandingAt c.args.search.now c.loop-place.gathered.matches.leaves.items) c.args.places.now c.loop-place.place-index _ c.loop-place.invariant.stand c.loop-place-test.true in
+    let here = all_get (IsStandingAt c.args.search.now c.loop-place.matches.leaves.items) c.args.places.now c.loop-place.place-index _ c.loop-place.invariant.stand c.loop-place-test.true in
     (here.hit, here.at)
 
 pub add-requires-clause-known : goal.add-requires-clause-known
@@ -50,13 +37,13 @@ add-requires-clause-known c = hit_known c.args.search.now _ _ c.requires.ready c
 
 pub add-requires-clause-stands : goal.add-requires-clause-stands
 add-requires-clause-stands c =
-    let leaves = c.loop-place.gathered.matches.leaves.items in
+    let leaves = c.loop-place.matches.leaves.items in
     let here = all_get (IsStandingAt c.args.search.now leaves) c.args.places.now c.loop-place.place-index _ c.loop-place.invariant.stand c.loop-place-test.true in
     hit_stands c.args.search.now leaves _ _ c.requires.ready here c.in_ok-entry.ensures.entry
 
 pub add-requires-clause-leaf : goal.add-requires-clause-leaf
 add-requires-clause-leaf c =
-    let leaves = c.loop-place.gathered.matches.leaves.items in
+    let leaves = c.loop-place.matches.leaves.items in
     let here = all_get (IsStandingAt c.args.search.now leaves) c.args.places.now c.loop-place.place-index _ c.loop-place.invariant.stand c.loop-place-test.true in
     hit_of_leaf c.args.search.now leaves _ _ c.requires.ready here c.in_ok-entry.ensures.entry
 

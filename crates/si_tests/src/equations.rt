@@ -51,10 +51,7 @@ fn two(alloc: Global, sym: u32, t: &Flat, u: &Flat) -> Result<Flat, AllocError> 
 
 // Takes the last term away. Signs that are no term are answered like want of memory.
 fn taken(terms: &mut Vec<Flat>) -> Result<Flat, AllocError> {
-    match terms.pop() {
-        Some(term) => Ok(term),
-        None => Err(AllocError),
-    }
+    terms.pop().ok_or(AllocError)
 }
 
 fn put_one(alloc: Global, terms: &mut Vec<Flat>, sym: u32) -> Result<(), AllocError> {
@@ -98,15 +95,27 @@ fn read(alloc: Global, signs: &[u8]) -> Result<Flat, AllocError> {
     taken(&mut terms)
 }
 
+fn sign_at(signs: &[u8], number: usize) -> u8 {
+    if number >= signs.len() {
+        return b'?';
+    }
+    signs[number]
+}
+
+fn symbol_sign(sym: u32, arity: u32) -> u8 {
+    if arity == 0 && sym == b'g' as u32 {
+        return b'c';
+    }
+    u8::try_from(sym).unwrap_or(b'?')
+}
+
 fn sign_of(cell: Cell) -> u8 {
-    let sign = match cell {
-        Cell::App { sym, arity: 0, .. } if sym == b'g' as u32 => Some(&b'c'),
-        Cell::App { sym, .. } => return u8::try_from(sym).unwrap_or(b'?'),
-        Cell::Query(number) => b"xyz".get(number as usize),
-        Cell::Entry(number) => b"XYZ".get(number as usize),
-        Cell::Ind(number) => b"pq".get(number as usize),
-    };
-    *sign.unwrap_or(&b'?')
+    match cell {
+        Cell::App { sym, arity, .. } => symbol_sign(sym, arity),
+        Cell::Query(number) => sign_at(b"xyz", number as usize),
+        Cell::Entry(number) => sign_at(b"XYZ", number as usize),
+        Cell::Ind(number) => sign_at(b"pq", number as usize),
+    }
 }
 
 fn put_cells(signs: &mut Vec<u8>, cells: &[Cell]) -> Result<(), AllocError> {
@@ -121,7 +130,7 @@ fn listed<'a>(alloc: Global, trail: &Trail<&'a [Cell]>) -> Result<Vec<u8>, Alloc
     let mut signs = Vec::new(alloc);
     for n in 0..trail.mark() {
         let slot = trail.slot(n);
-        signs.push(*b"xyzXYZpq".get(slot).unwrap_or(&b'?'))?;
+        signs.push(sign_at(b"xyzXYZpq", slot))?;
         signs.push(b'=')?;
         if let Some(value) = trail.get(slot) {
             put_cells(&mut signs, value)?;
@@ -170,6 +179,10 @@ fn frozen(query: bool, entry: bool) -> Slots {
 // Two terms, and their answers: with nothing frozen, the query's variables, the entry's, and both.
 type Row = (&'static [u8], &'static [u8], [&'static [u8]; 4]);
 
+fn assert_signs(rt: &impl Abort, seen: &[u8], due: &[u8]) {
+    assert_eq!(rt; seen, due);
+}
+
 fn assert_solved(
     rt: &impl Abort,
     alloc: Global,
@@ -178,7 +191,7 @@ fn assert_solved(
     (s, t, due): (&Flat, &Flat, &[u8]),
 ) -> Result<(), AllocError> {
     let seen = answer(alloc, scratch, slots, s, t)?;
-    assert_eq!(rt; seen.as_slice(), due);
+    assert_signs(rt, seen.as_slice(), due);
     Ok(())
 }
 
@@ -214,15 +227,24 @@ fn assert_row(
     Ok(())
 }
 
-// Looks at the rows under each freezing.
-fn assert_rows(rt: &impl Abort, alloc: Global, rows: &[Row]) -> Result<(), AllocError> {
-    let mut scratch = Scratch::new(alloc);
+// Looks at the rows under each freezing, in memory that is lent.
+fn assert_rows_in(
+    rt: &impl Abort,
+    alloc: Global,
+    scratch: &mut Scratch,
+    rows: &[Row],
+) -> Result<(), AllocError> {
     // Room for terms of eight cells. For longer ones it grows.
     scratch.reserve(&frozen(false, false), 8)?;
     for row in rows {
-        assert_row(rt, alloc, &mut scratch, row)?;
+        assert_row(rt, alloc, scratch, row)?;
     }
     Ok(())
+}
+
+fn assert_rows(rt: &impl Abort, alloc: Global, rows: &[Row]) -> Result<(), AllocError> {
+    let mut scratch = Scratch::new(alloc);
+    assert_rows_in(rt, alloc, &mut scratch, rows)
 }
 
 // Clashes at every depth.
@@ -413,12 +435,41 @@ const TWICE: &[Row] = &[
     ),
 ];
 
-const TABLES: [&[Row]; 7] = [CLASHES, EQUAL, TERMS, VARIABLES, INDICATORS, CIRCLES, TWICE];
+// A test for each table or two: the text of all rows together is long.
 
 #[test]
-fn equations_have_these_bindings(rt: HostRuntime) -> Result<(), Fail> {
-    for rows in &TABLES {
-        assert_rows(&rt, rt.alloc(), rows)?;
-    }
+fn clashes_and_equal_terms(rt: HostRuntime) -> Result<(), Fail> {
+    assert_rows(&rt, rt.alloc(), CLASHES)?;
+    assert_rows(&rt, rt.alloc(), EQUAL)?;
+    Ok(())
+}
+
+#[test]
+fn variables_and_terms(rt: HostRuntime) -> Result<(), Fail> {
+    assert_rows(&rt, rt.alloc(), TERMS)?;
+    Ok(())
+}
+
+#[test]
+fn variables_and_variables(rt: HostRuntime) -> Result<(), Fail> {
+    assert_rows(&rt, rt.alloc(), VARIABLES)?;
+    Ok(())
+}
+
+#[test]
+fn indicators(rt: HostRuntime) -> Result<(), Fail> {
+    assert_rows(&rt, rt.alloc(), INDICATORS)?;
+    Ok(())
+}
+
+#[test]
+fn circles(rt: HostRuntime) -> Result<(), Fail> {
+    assert_rows(&rt, rt.alloc(), CIRCLES)?;
+    Ok(())
+}
+
+#[test]
+fn variables_that_stand_twice(rt: HostRuntime) -> Result<(), Fail> {
+    assert_rows(&rt, rt.alloc(), TWICE)?;
     Ok(())
 }

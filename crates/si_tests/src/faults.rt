@@ -1,6 +1,8 @@
 // What faults say of themselves.
 use si_defs::Side;
 use si_sign::{AddFault, Clash, Shape};
+use std::alloc::{AllocError, Global};
+use std::process::Abort;
 use std::test::Fail;
 
 /// Faults, and what they say of themselves.
@@ -30,10 +32,25 @@ const SAID: [(AddFault, &str); 4] = [
     (AddFault::Memory, "out of memory"),
 ];
 
+fn assert_text(rt: &impl Abort, seen: &str, due: &str) {
+    assert_eq!(rt; seen, due);
+}
+
+fn assert_said(
+    rt: &impl Abort,
+    alloc: Global,
+    fault: &AddFault,
+    due: &str,
+) -> Result<(), AllocError> {
+    let seen = fault.to_string(alloc)?;
+    assert_text(rt, seen.as_str(), due);
+    Ok(())
+}
+
 #[test]
 fn faults_say_why(rt: HostRuntime) -> Result<(), Fail> {
     for (fault, text) in &SAID {
-        assert_eq!(rt; fault.to_string(rt.alloc())?.as_str(), *text);
+        assert_said(&rt, rt.alloc(), fault, text)?;
     }
     Ok(())
 }

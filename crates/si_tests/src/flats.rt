@@ -6,8 +6,8 @@ ghost use Rattle.si_defs.specs.declared.TheConstants.{MOST_BYTES};
 ghost use Rattle.si_term.specs.Meaning.{pattern_of};
 ghost use Rattle.si_term.specs.Terms.{symbol_of};
 
-use si_flat::{Cell, flatten_entry};
-use si_lex::lex;
+use si_flat::{Cell, Flat, FlatQuery, flatten_entry};
+use si_lex::{Lexeme, lex};
 use si_parse::pattern::PatternKind;
 use si_query::read_flat;
 use si_term::{Pattern, Side, Sym, SymKind, SymTable, Text};
@@ -58,6 +58,17 @@ fn table(alloc: Global) -> Result<OneSymbol, AllocError> {
     Ok(OneSymbol { symbol })
 }
 
+fn cells_seen(flat: &Option<Flat>) -> &[Cell] {
+    let Some(flat) = flat else {
+        return &[];
+    };
+    flat.cells()
+}
+
+fn assert_cells(rt: &impl Abort, seen: &[Cell], due: &[Cell]) {
+    assert_eq!(rt; seen, due);
+}
+
 /// The entry's flat term, and none where `due` is empty.
 fn assert_entry(
     rt: &impl Abort,
@@ -68,10 +79,8 @@ fn assert_entry(
 ) -> Result<(), AllocError>
     requires { IsSoundPattern (pattern_of literal.now) }
 {
-    match flatten_entry(alloc, table, literal.as_entry())? {
-        Some(flat) => assert_eq!(rt; flat.cells(), due),
-        None => assert!(rt; due.is_empty()),
-    }
+    let seen = flatten_entry(alloc, table, literal.as_entry())?;
+    assert_cells(rt, cells_seen(&seen), due);
     Ok(())
 }
 
@@ -111,17 +120,34 @@ fn literals_have_their_cells(rt: HostRuntime) -> Result<(), Fail> {
     Ok(())
 }
 
+fn cells_read(query: &Option<FlatQuery>) -> &[Cell] {
+    let Some(query) = query else {
+        return &[];
+    };
+    query.flat.cells()
+}
+
+fn assert_read_from(
+    rt: &impl Abort,
+    alloc: Global,
+    table: &OneSymbol,
+    tokens: &[Lexeme<'_>],
+    due: &[Cell],
+) -> Result<(), AllocError>
+    requires { length tokens.now ≤ MOST_BYTES }
+{
+    let query = read_flat(alloc, table, tokens, PatternKind::Lit)?;
+    assert_cells(rt, cells_read(&query), due);
+    Ok(())
+}
+
 /// What is read of a literal straight from its tokens, and nothing where `due` is empty.
 fn assert_read(rt: &impl Abort, alloc: Global, text: &[u8], due: &[Cell]) -> Result<(), AllocError>
     requires { length text.now ≤ MOST_BYTES }
 {
     let table = table(alloc)?;
     let lexing = lex(alloc, text, 0)?;
-    match read_flat(alloc, &table, lexing.tokens.as_slice(), PatternKind::Lit)? {
-        Some(query) => assert_eq!(rt; query.flat.cells(), due),
-        None => assert!(rt; due.is_empty()),
-    }
-    Ok(())
+    assert_read_from(rt, alloc, &table, lexing.tokens.as_slice(), due)
 }
 
 fn cell(sym: u32, len: u32) -> Cell {

@@ -1,29 +1,37 @@
 // The readers at texts that were read by hand.
+ghost use Rattle.std.specs.Prelude.{◌≤◌, length};
+ghost use Rattle.si_defs.specs.declared.TheConstants.{MOST_BYTES};
+
 use si_defs::{MOST_BYTES, NameKind, SymKind};
-use si_lex::lex;
+use si_lex::{Lexeme, lex};
 use si_parse::grammar::{literal, term};
 use si_parse::item::{Read, next_item};
 use si_parse::pattern::{PatternKind, read_pattern};
 use si_parse::text::{read_file, read_formula, read_name};
-use si_term::{Literals, Term};
+use si_term::{Literal, Literals, Sym, Term};
 use std::alloc::{AllocError, Global};
 use std::process::Abort;
 use std::test::Fail;
 
-/// What stands in a text (`c` a clause, `i` an include, `e` the end, `s` no item, `l` another
-/// language), and its place.
+/// What was read (`c` a clause, `i` an include, `e` the end, `s` no item, `l` another language), and
+/// its place.
+fn seen_in(read: &Read) -> (u8, usize) {
+    match read {
+        Read::Cnf(_, end) => (b'c', *end),
+        Read::Include(_, _, end) => (b'i', *end),
+        Read::End => (b'e', 0),
+        Read::Syntax(place) => (b's', *place),
+        Read::Language(place) => (b'l', *place),
+    }
+}
+
+/// What stands in a text.
 fn seen(alloc: Global, text: &[u8]) -> Result<(u8, usize), AllocError> {
     if text.len() > MOST_BYTES {
         return Err(AllocError);
     }
-    let seen = match next_item(alloc, text, 0)? {
-        Read::Cnf(_, end) => (b'c', end),
-        Read::Include(_, _, end) => (b'i', end),
-        Read::End => (b'e', 0),
-        Read::Syntax(place) => (b's', place),
-        Read::Language(place) => (b'l', place),
-    };
-    Ok(seen)
+    let read = next_item(alloc, text, 0)?;
+    Ok(seen_in(&read))
 }
 
 /// A text, and what is seen in it and where.
@@ -141,18 +149,25 @@ const FORMULAS: [Formula; 18] = [
     (b" /**/p%", 1, true, SymKind::Word, b"p"),
 ];
 
+fn head_of(term: &Term) -> Option<&Sym> {
+    match term {
+        Term::App(head, _) => Some(head),
+        Term::Var(_) => None,
+    }
+}
+
+fn assert_first(rt: &impl Abort, first: &Literal, row: &Formula) {
+    assert_eq!(rt; first.positive, row.2);
+    let head = head_of(&first.atom).expect(rt, "a head");
+    assert_eq!(rt; head.kind, row.3);
+    assert_eq!(rt; head.text.as_bytes(), row.4);
+}
+
 /// The formula is as the row says.
 fn assert_formula(rt: &impl Abort, literals: &Literals, row: &Formula) {
     assert_eq!(rt; literals.len(), row.1);
     let first = literals.as_slice().first().expect(rt, "a literal");
-    assert_eq!(rt; first.positive, row.2);
-    let head = match &first.atom {
-        Term::App(head, _) => Some(head),
-        Term::Var(_) => None,
-    };
-    let head = head.expect(rt, "a head");
-    assert_eq!(rt; head.kind, row.3);
-    assert_eq!(rt; head.text.as_bytes(), row.4);
+    assert_first(rt, first, row);
 }
 
 const NO_FORMULAS: [&[u8]; 24] = [
@@ -182,21 +197,41 @@ const NO_FORMULAS: [&[u8]; 24] = [
     b"=p",
 ];
 
+fn assert_formula_in(rt: &impl Abort, alloc: Global, row: &Formula) -> Result<(), AllocError> {
+    let formula = formula_in(alloc, row.0)?.expect(rt, "a formula");
+    assert_formula(rt, &formula, row);
+    Ok(())
+}
+
+fn assert_formulas(rt: &impl Abort, alloc: Global, rows: &[Formula]) -> Result<(), AllocError> {
+    for row in rows {
+        assert_formula_in(rt, alloc, row)?;
+    }
+    Ok(())
+}
+
 #[test]
 fn formulas(rt: HostRuntime) -> Result<(), Fail> {
-    for row in &FORMULAS {
-        let formula = formula_in(rt.alloc(), row.0)?.expect(&rt, "a formula");
-        assert_formula(&rt, &formula, row);
+    assert_formulas(&rt, rt.alloc(), &FORMULAS)?;
+    Ok(())
+}
+
+/// Whether a text is a formula.
+fn is_formula(alloc: Global, text: &[u8]) -> Result<bool, AllocError> {
+    let formula = formula_in(alloc, text)?;
+    Ok(formula.is_some())
+}
+
+fn assert_no_formulas(rt: &impl Abort, alloc: Global, texts: &[&[u8]]) -> Result<(), AllocError> {
+    for text in texts {
+        assert!(rt; !is_formula(alloc, text)?);
     }
     Ok(())
 }
 
 #[test]
 fn no_formulas(rt: HostRuntime) -> Result<(), Fail> {
-    for text in &NO_FORMULAS {
-        let formula = formula_in(rt.alloc(), text)?;
-        assert!(rt; formula.is_none());
-    }
+    assert_no_formulas(&rt, rt.alloc(), &NO_FORMULAS)?;
     Ok(())
 }
 
@@ -214,11 +249,19 @@ const PATTERNS: [(&[u8], PatternKind, bool); 11] = [
     (b"p /*", PatternKind::Term, false),
 ];
 
+/// Whether a text is a pattern of a kind.
+fn is_pattern(alloc: Global, text: &[u8], kind: PatternKind) -> Result<bool, AllocError> {
+    if text.len() > MOST_BYTES {
+        return Err(AllocError);
+    }
+    let pattern = read_pattern(alloc, text, kind)?;
+    Ok(pattern.is_some())
+}
+
 #[test]
 fn patterns(rt: HostRuntime) -> Result<(), Fail> {
     for row in &PATTERNS {
-        let pattern = read_pattern(rt.alloc(), row.0, row.1)?;
-        assert_eq!(rt; pattern.is_some(), row.2);
+        assert_eq!(rt; is_pattern(rt.alloc(), row.0, row.1)?, row.2);
     }
     Ok(())
 }
@@ -231,11 +274,19 @@ const NAMES: [(&[u8], NameKind); 5] = [
     (b"+1", NameKind::Int),
 ];
 
+/// The kind of the name that a text is.
+fn kind_in(rt: &impl Abort, alloc: Global, text: &[u8]) -> Result<NameKind, AllocError> {
+    if text.len() > MOST_BYTES {
+        return Err(AllocError);
+    }
+    let name = read_name(alloc, text)?.expect(rt, "a name");
+    Ok(name.kind)
+}
+
 #[test]
 fn names(rt: HostRuntime) -> Result<(), Fail> {
     for row in &NAMES {
-        let name = read_name(rt.alloc(), row.0)?.expect(&rt, "a name");
-        assert_eq!(rt; name.kind, row.1);
+        assert_eq!(rt; kind_in(&rt, rt.alloc(), row.0)?, row.1);
     }
     Ok(())
 }
@@ -248,11 +299,19 @@ const FILES: [(&[u8], bool); 5] = [
     (b"X", false),
 ];
 
+/// Whether a text is the name of a file.
+fn is_file(alloc: Global, text: &[u8]) -> Result<bool, AllocError> {
+    if text.len() > MOST_BYTES {
+        return Err(AllocError);
+    }
+    let file = read_file(alloc, text)?;
+    Ok(file.is_some())
+}
+
 #[test]
 fn files(rt: HostRuntime) -> Result<(), Fail> {
     for row in &FILES {
-        let file = read_file(rt.alloc(), row.0)?;
-        assert_eq!(rt; file.is_some(), row.1);
+        assert_eq!(rt; is_file(rt.alloc(), row.0)?, row.1);
     }
     Ok(())
 }
@@ -279,13 +338,21 @@ fn nested(
     Ok(text)
 }
 
-/// Whether a text is a pattern.
-fn is_pattern(alloc: Global, text: &[u8]) -> Result<bool, AllocError> {
-    if text.len() > MOST_BYTES {
-        return Err(AllocError);
-    }
-    let pattern = read_pattern(alloc, text, PatternKind::Term)?;
-    Ok(pattern.is_some())
+/// Whether an item with so many brackets is a clause.
+fn is_nested_item(alloc: Global, brackets: usize) -> Result<bool, AllocError> {
+    let item = nested(alloc, b"cnf(a,axiom,", b"(", brackets, b").")?;
+    let found = seen(alloc, &item)?;
+    Ok(found.0 == b'c')
+}
+
+fn is_nested_pattern(alloc: Global, brackets: usize) -> Result<bool, AllocError> {
+    let pattern = nested(alloc, b"", b"f(", brackets, b"")?;
+    is_pattern(alloc, &pattern, PatternKind::Term)
+}
+
+fn is_nested_formula(alloc: Global, brackets: usize) -> Result<bool, AllocError> {
+    let formula = nested(alloc, b"", b"(", brackets, b"")?;
+    is_formula(alloc, &formula)
 }
 
 /// So many brackets inside those of an item, so many in all, and whether they are read.
@@ -293,15 +360,27 @@ const DEPTHS: [(usize, usize, bool); 3] = [(510, 511, true), (511, 512, true), (
 
 #[test]
 fn nesting(rt: HostRuntime) -> Result<(), Fail> {
-    for (inside, whole, is_read) in DEPTHS {
-        let item = nested(rt.alloc(), b"cnf(a,axiom,", b"(", inside, b").")?;
-        assert_eq!(rt; seen(rt.alloc(), &item)?.0 == b'c', is_read);
-        let pattern = nested(rt.alloc(), b"", b"f(", whole, b"")?;
-        assert_eq!(rt; is_pattern(rt.alloc(), &pattern)?, is_read);
-        let formula = nested(rt.alloc(), b"", b"(", whole, b"")?;
-        assert_eq!(rt; formula_in(rt.alloc(), &formula)?.is_some(), is_read);
+    for &(inside, whole, is_read) in &DEPTHS {
+        assert_eq!(rt; is_nested_item(rt.alloc(), inside)?, is_read);
+        assert_eq!(rt; is_nested_pattern(rt.alloc(), whole)?, is_read);
+        assert_eq!(rt; is_nested_formula(rt.alloc(), whole)?, is_read);
     }
     Ok(())
+}
+
+/// Whether a term is found at the front of tokens.
+fn is_term(alloc: Global, tokens: &[Lexeme]) -> Result<bool, AllocError>
+    requires { length tokens.now ≤ MOST_BYTES }
+{
+    let found = term(alloc, tokens)?;
+    Ok(found.is_some())
+}
+
+fn is_literal(alloc: Global, tokens: &[Lexeme]) -> Result<bool, AllocError>
+    requires { length tokens.now ≤ MOST_BYTES }
+{
+    let found = literal(alloc, tokens)?;
+    Ok(found.is_some())
 }
 
 /// Whether a term and a literal are found at the front of a text's tokens.
@@ -311,9 +390,7 @@ fn found_in(alloc: Global, text: &[u8]) -> Result<(bool, bool), AllocError> {
     if tokens.len() > MOST_BYTES {
         return Err(AllocError);
     }
-    let is_term = term(alloc, tokens)?.is_some();
-    let is_literal = literal(alloc, tokens)?.is_some();
-    Ok((is_term, is_literal))
+    Ok((is_term(alloc, tokens)?, is_literal(alloc, tokens)?))
 }
 
 const FRONTS: [(&[u8], bool, bool); 9] = [

@@ -617,6 +617,11 @@ fn assert_kept(rt: &impl Abort, alloc: Global, store: &mut PlainStore) -> Result
     Ok(())
 }
 
+fn assert_answer(rt: &impl Abort, loaded: &Result<Loaded, HarvestFault>, row: &Row) {
+    let (files, _, answer, named, _) = *row;
+    assert_eq!(rt; told(loaded), (answer, named), "at {files:?}");
+}
+
 /// Loads the file `m`, and looks at the answer and the name.
 fn assert_told(
     rt: &impl Abort,
@@ -626,9 +631,8 @@ fn assert_told(
 ) -> Result<(), AllocError>
     requires { store.old.0.entries ≤ MOST_OCCURRENCES }
 {
-    let (files, bound, answer, named, _) = *row;
-    let result = load(alloc, files, b"m", bound, store)?;
-    assert_eq!(rt; told(&result), (answer, named), "at {files:?}");
+    let result = load(alloc, row.0, b"m", row.1, store)?;
+    assert_answer(rt, &result, row);
     Ok(())
 }
 
@@ -656,26 +660,27 @@ fn assert_row(rt: &impl Abort, alloc: Global, row: &Row) -> Result<(), AllocErro
     assert_loads(rt, alloc, row, &mut store)
 }
 
+fn assert_rows(rt: &impl Abort, alloc: Global, rows: &[Row]) -> Result<(), AllocError> {
+    for row in rows {
+        assert_row(rt, alloc, row)?;
+    }
+    Ok(())
+}
+
 #[test]
 fn files_are_loaded(rt: HostRuntime) -> Result<(), Fail> {
-    for row in &GAINS {
-        assert_row(&rt, rt.alloc(), row)?;
-    }
+    assert_rows(&rt, rt.alloc(), &GAINS)?;
     Ok(())
 }
 
 #[test]
 fn the_first_fault_is_told(rt: HostRuntime) -> Result<(), Fail> {
-    for row in &FAULTS {
-        assert_row(&rt, rt.alloc(), row)?;
-    }
+    assert_rows(&rt, rt.alloc(), &FAULTS)?;
     Ok(())
 }
 
 #[test]
 fn limits_are_kept(rt: HostRuntime) -> Result<(), Fail> {
-    for row in &LIMITS {
-        assert_row(&rt, rt.alloc(), row)?;
-    }
+    assert_rows(&rt, rt.alloc(), &LIMITS)?;
     Ok(())
 }

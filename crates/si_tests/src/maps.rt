@@ -14,13 +14,22 @@ fn answer(alloc: Global, c: &[u8], d: &[u8]) -> Result<LitMap, AllocError> {
     Ok(map.unwrap_or(LitMap::new(alloc)))
 }
 
+fn assert_map(rt: &impl Abort, seen: &[u32], due: &[u32]) {
+    assert_eq!(rt; seen, due);
+}
+
+fn assert_row(rt: &impl Abort, alloc: Global, row: &Row) -> Result<(), AllocError> {
+    let map = answer(alloc, row.0, row.1)?;
+    assert_map(rt, map.as_slice(), row.2);
+    Ok(())
+}
+
 /// Two formulas, and the least map, or nothing.
 type Row = (&'static [u8], &'static [u8], &'static [u32]);
 
 fn assert_rows(rt: &impl Abort, alloc: Global, rows: &[Row]) -> Result<(), AllocError> {
     for row in rows {
-        let map = answer(alloc, row.0, row.1)?;
-        assert_eq!(rt; map.as_slice(), row.2);
+        assert_row(rt, alloc, row)?;
     }
     Ok(())
 }

@@ -1,6 +1,6 @@
 // The lexer at texts that were read by hand.
 use si_defs::TokenKind;
-use si_lex::{Lexed, Lexeme, Token, TokensEnd, lex, lex_item, next_token};
+use si_lex::{Lexed, Lexeme, Lexing, Token, TokensEnd, lex, lex_item, next_token};
 use std::alloc::{AllocError, Global};
 use std::process::Abort;
 use std::test::Fail;
@@ -17,16 +17,26 @@ fn seen(lexed: &Lexed) -> (Option<&Token>, Option<usize>) {
     }
 }
 
+fn assert_seen(rt: &impl Abort, lexed: &Lexed, row: &Row) {
+    let token = seen(lexed).0.expect(rt, "a token");
+    let found = (token.kind, token.start, token.end, token.text.as_bytes());
+    assert_eq!(rt; found, (row.1, row.2, row.3, row.4));
+}
+
 /// The token after the blanks from a place on.
 fn assert_token(rt: &impl Abort, alloc: Global, at: usize, row: &Row) -> Result<(), AllocError> {
     if at > row.0.len() {
         return Err(AllocError);
     }
     let lexed = next_token(alloc, row.0, at)?;
-    let token = seen(&lexed).0.expect(rt, "a token");
-    let found = (token.kind, token.start, token.end, token.text.as_bytes());
-    assert_eq!(rt; found, (row.1, row.2, row.3, row.4));
+    assert_seen(rt, &lexed, row);
     Ok(())
+}
+
+fn assert_unseen(rt: &impl Abort, lexed: &Lexed, place: Option<usize>) {
+    let (token, bad) = seen(lexed);
+    assert!(rt; token.is_none());
+    assert_eq!(rt; bad, place);
 }
 
 /// The place where no token stands, and none at the end.
@@ -37,9 +47,7 @@ fn assert_none(
     place: Option<usize>,
 ) -> Result<(), AllocError> {
     let lexed = next_token(alloc, text, 0)?;
-    let (token, bad) = seen(&lexed);
-    assert!(rt; token.is_none());
-    assert_eq!(rt; bad, place);
+    assert_unseen(rt, &lexed, place);
     Ok(())
 }
 
@@ -72,11 +80,16 @@ const TOKENS: [Row; 26] = [
     (b"{", TokenKind::Mark, 0, 1, b"{"),
 ];
 
+fn assert_tokens(rt: &impl Abort, alloc: Global, rows: &[Row]) -> Result<(), AllocError> {
+    for row in rows {
+        assert_token(rt, alloc, 0, row)?;
+    }
+    Ok(())
+}
+
 #[test]
 fn tokens_at_their_edges(rt: HostRuntime) -> Result<(), Fail> {
-    for row in &TOKENS {
-        assert_token(&rt, rt.alloc(), 0, row)?;
-    }
+    assert_tokens(&rt, rt.alloc(), &TOKENS)?;
     assert_token(&rt, rt.alloc(), 2, &(b" 01", TokenKind::Int, 2, 3, b"1"))?;
     Ok(())
 }
@@ -116,15 +129,33 @@ const NO_TOKENS: [(&[u8], usize); 28] = [
 /// Texts of blanks.
 const BLANK: [&[u8]; 6] = [b"", b" ", b"/**/", b"%", b"% c", b"%\n /* % */"];
 
-#[test]
-fn no_tokens(rt: HostRuntime) -> Result<(), Fail> {
-    for (text, place) in &NO_TOKENS {
-        assert_none(&rt, rt.alloc(), text, Some(*place))?;
-    }
-    for text in &BLANK {
-        assert_none(&rt, rt.alloc(), text, None)?;
+fn assert_none_at(
+    rt: &impl Abort,
+    alloc: Global,
+    rows: &[(&[u8], usize)],
+) -> Result<(), AllocError> {
+    for (text, place) in rows {
+        assert_none(rt, alloc, text, Some(*place))?;
     }
     Ok(())
+}
+
+fn assert_blank(rt: &impl Abort, alloc: Global, texts: &[&[u8]]) -> Result<(), AllocError> {
+    for text in texts {
+        assert_none(rt, alloc, text, None)?;
+    }
+    Ok(())
+}
+
+#[test]
+fn no_tokens(rt: HostRuntime) -> Result<(), Fail> {
+    assert_none_at(&rt, rt.alloc(), &NO_TOKENS)?;
+    assert_blank(&rt, rt.alloc(), &BLANK)?;
+    Ok(())
+}
+
+fn assert_length(rt: &impl Abort, lexing: &Lexing, due: (usize, TokensEnd)) {
+    assert_eq!(rt; (lexing.tokens.len(), lexing.stop), due);
 }
 
 /// How many tokens the list of a whole text has, and where it stops.
@@ -135,24 +166,40 @@ fn assert_list(
     due: (usize, TokensEnd),
 ) -> Result<(), AllocError> {
     let lexing = lex(alloc, text, 0)?;
-    assert_eq!(rt; (lexing.tokens.len(), lexing.stop), due);
+    assert_length(rt, &lexing, due);
     Ok(())
 }
 
 /// How many tokens an item has, where they begin and end, and where its list stops.
 type Item = (usize, usize, usize, TokensEnd);
 
-fn assert_item(rt: &impl Abort, alloc: Global, text: &[u8], due: Item) -> Result<(), AllocError> {
-    let item = lex_item(alloc, text, 0)?;
+fn assert_places(rt: &impl Abort, item: &Lexing, due: Item) {
     let seen = (item.tokens.len(), item.start, item.end, item.stop);
     assert_eq!(rt; seen, due);
+}
+
+fn assert_item(rt: &impl Abort, alloc: Global, text: &[u8], due: Item) -> Result<(), AllocError> {
+    let item = lex_item(alloc, text, 0)?;
+    assert_places(rt, &item, due);
     Ok(())
 }
 
+fn assert_items(rt: &impl Abort, alloc: Global, rows: &[(&[u8], Item)]) -> Result<(), AllocError> {
+    for (text, due) in rows {
+        assert_item(rt, alloc, text, *due)?;
+    }
+    Ok(())
+}
+
+fn assert_bytes(rt: &impl Abort, seen: &[u8], due: &[u8]) {
+    assert_eq!(rt; seen, due);
+}
+
 fn assert_word(rt: &impl Abort, alloc: Global, word: &Lexeme) -> Result<(), AllocError> {
-    assert_eq!(rt; word.text(alloc)?.as_bytes(), b"cnf".as_slice());
     assert!(rt; word.is_lower(b"cnf"));
     assert!(rt; !word.is_mark(b'c'));
+    let text = word.text(alloc)?;
+    assert_bytes(rt, text.as_bytes(), b"cnf");
     Ok(())
 }
 
@@ -169,9 +216,7 @@ const WORD: Lexeme<'static> = Lexeme {
 
 #[test]
 fn lists_of_tokens(rt: HostRuntime) -> Result<(), Fail> {
-    for (text, due) in &ITEMS {
-        assert_item(&rt, rt.alloc(), text, *due)?;
-    }
+    assert_items(&rt, rt.alloc(), &ITEMS)?;
     assert_list(&rt, rt.alloc(), ITEMS[0].0, (8, TokensEnd::End))?;
     assert_word(&rt, rt.alloc(), &WORD)?;
     Ok(())
@@ -191,17 +236,21 @@ fn annotated(alloc: Global, brackets: usize) -> Result<Vec<u8>, AllocError> {
     Ok(text)
 }
 
+fn assert_annotated(
+    rt: &impl Abort,
+    alloc: Global,
+    brackets: usize,
+    due: Item,
+) -> Result<(), AllocError> {
+    let text = annotated(alloc, brackets)?;
+    assert_item(rt, alloc, text.as_slice(), due)
+}
+
 // Annotations with 63 open brackets are left out, and those with 64 are kept.
 #[test]
 fn brackets_of_annotations(rt: HostRuntime) -> Result<(), Fail> {
-    let items = [
-        (63, (9, 0, 138, TokensEnd::FullStop)),
-        (64, (138, 0, 140, TokensEnd::FullStop)),
-    ];
-    for (brackets, due) in items {
-        let text = annotated(rt.alloc(), brackets)?;
-        assert_item(&rt, rt.alloc(), text.as_slice(), due)?;
-    }
+    assert_annotated(&rt, rt.alloc(), 63, (9, 0, 138, TokensEnd::FullStop))?;
+    assert_annotated(&rt, rt.alloc(), 64, (138, 0, 140, TokensEnd::FullStop))?;
     Ok(())
 }
 
@@ -213,17 +262,17 @@ const SIDE_BY_SIDE: [(TokenKind, &[u8]); 4] = [
     (TokenKind::Mark, b"."),
 ];
 
-fn assert_lexemes(rt: &impl Abort, lexemes: &[Lexeme]) {
-    assert_eq!(rt; lexemes.len(), SIDE_BY_SIDE.len());
-    for (lexeme, (kind, spelling)) in lexemes.iter().zip(SIDE_BY_SIDE) {
-        assert_eq!(rt; (lexeme.kind, lexeme.spelling), (kind, spelling));
+fn assert_lexemes(rt: &impl Abort, lexemes: &[Lexeme], due: &[(TokenKind, &[u8])]) {
+    assert_eq!(rt; lexemes.len(), due.len());
+    for (lexeme, (kind, spelling)) in lexemes.iter().zip(due) {
+        assert_eq!(rt; (lexeme.kind, lexeme.spelling), (*kind, *spelling));
     }
 }
 
 #[test]
 fn tokens_side_by_side(rt: HostRuntime) -> Result<(), Fail> {
     let lexing = lex(rt.alloc(), b"X!=-3.", 0)?;
-    assert_lexemes(&rt, lexing.tokens.as_slice());
+    assert_lexemes(&rt, lexing.tokens.as_slice(), &SIDE_BY_SIDE);
     Ok(())
 }
 
@@ -231,6 +280,6 @@ fn tokens_side_by_side(rt: HostRuntime) -> Result<(), Fail> {
 fn nesting(rt: HostRuntime) -> Result<(), Fail> {
     assert_list(&rt, rt.alloc(), &[b'['; 512], (512, TokensEnd::End))?;
     let deeper = lex_item(rt.alloc(), &[b'('; 513], 0)?;
-    assert_eq!(rt; (deeper.tokens.len(), deeper.stop), (512, TokensEnd::Bad));
+    assert_length(&rt, &deeper, (512, TokensEnd::Bad));
     Ok(())
 }

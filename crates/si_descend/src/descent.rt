@@ -13,6 +13,7 @@ ghost use Rattle.si_unify.specs.Solving.{AllowsSolving};
 ghost use Rattle.si_descend.specs.Searching.{IsReady, KeepsApart, NotesTaken, HasFound, LacksRoom};
 
 use crate::counting::{Counted, count_at};
+use crate::memory::SearchMemory;
 use crate::search::{Search, visit};
 use crate::taken::Taken;
 use crate::variants::is_renaming;
@@ -108,6 +109,7 @@ pub fn descend_with<'a>(
 /// many nodes of the tree are open. At an error the postings are as before.
 pub fn retrieve(
     alloc: Global,
+    memory: &mut SearchMemory,
     tree: &Tree,
     relation: Relation,
     query: &Flat,
@@ -121,14 +123,17 @@ pub fn retrieve(
     let root = tree.root();
     let cells = query.cells();
     let slots = slots_for(tree, relation, cells);
-    let mut trail = Trail::with_slots(alloc, slots.count())?;
+    let mut trail = memory.trail(slots.count())?;
     trail.bind(slots.query as usize + slots.entry as usize, cells);
-    descend(alloc, tree, root, relation, query, &slots, &mut trail, out)
+    let passed = descend(alloc, tree, root, relation, query, &slots, &mut trail, out);
+    memory.take_back(trail);
+    passed
 }
 
 /// Counts the postings that [`retrieve`] would append, and the open nodes. It copies no posting.
 pub fn count(
     alloc: Global,
+    memory: &mut SearchMemory,
     tree: &Tree,
     relation: Relation,
     query: &Flat,
@@ -139,10 +144,12 @@ pub fn count(
     let root = tree.root();
     let cells = query.cells();
     let slots = slots_for(tree, relation, cells);
-    let mut trail = Trail::with_slots(alloc, slots.count())?;
+    let mut trail = memory.trail(slots.count())?;
     trail.bind(slots.query as usize + slots.entry as usize, cells);
     let search = Search::new(tree, relation, query, slots);
-    count_below(alloc, &search, root, &mut trail)
+    let counted = count_below(alloc, &search, root, &mut trail);
+    memory.take_back(trail);
+    counted
 }
 
 // Counts below a node or at it.

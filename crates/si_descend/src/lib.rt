@@ -11,6 +11,7 @@ mod counting;
 mod descent;
 mod ends;
 mod heads;
+mod memory;
 mod rights;
 mod search;
 mod subtrees;
@@ -19,5 +20,6 @@ mod variants;
 
 pub use counting::Counted;
 pub use descent::{count, descend, descend_with, retrieve, slots_for};
+pub use memory::SearchMemory;
 pub use rights::longest_right;
 pub use taken::Taken;

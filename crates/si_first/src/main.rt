@@ -6,7 +6,7 @@ ghost use Rattle.si_defs.specs.Clauses.{IsSoundPattern};
 ghost use Rattle.si_term.specs.Meaning.{pattern_of};
 
 use si_defs::Relation;
-use si_index::{Found, Index};
+use si_index::{Found, Index, SearchMemory};
 use si_io::{Failed, RealSink, Sink};
 use si_parse::item::{Read, next_item};
 use si_parse::pattern::{PatternKind, read_pattern};
@@ -79,13 +79,20 @@ fn ask<K: Sink>(alloc: Global, index: &Index, sink: &mut K) -> Result<(), Fault>
     let Some(pattern) = read_pattern(alloc, b"p(U,V)", PatternKind::Lit)? else {
         return Err(Fault::Text);
     };
-    answer(index, &pattern, sink)
+    answer(alloc, index, &pattern, sink)
 }
 
-fn answer<K: Sink>(index: &Index, pattern: &Pattern, sink: &mut K) -> Result<(), Fault>
+fn answer<K: Sink>(
+    alloc: Global,
+    index: &Index,
+    pattern: &Pattern,
+    sink: &mut K,
+) -> Result<(), Fault>
     requires { IsSoundPattern (pattern_of pattern.now) }
 {
-    let found = index.find(index.trees(), Relation::Instances, pattern)?;
+    // A program that asks more than once lends it to each question.
+    let mut memory = SearchMemory::new(alloc);
+    let found = index.find(&mut memory, index.trees(), Relation::Instances, pattern)?;
     tell(&found, sink)
 }
 

@@ -4,13 +4,14 @@ use Rattle.std.specs.Borrow.{Bor}
 use Rattle.si_defs.specs.Terms as terms
 use Rattle.si_flat.specs.declared.Cell.{Cell}
 use Rattle.si_flat.specs.declared.Cell.TheVariants as cell
-use Rattle.si_flat.specs.Cells.{Variable, Term, variable_cell, StandsFor, IsWhole}
+use Rattle.si_flat.specs.Cells.{Variable, Term, variable_cell, StandsFor, IsWhole, ind}
 use Rattle.si_trail.specs.Trails.{value_at}
 use Rattle.si_unify.specs.declared.slots.Slots.{Slots}
 use Rattle.si_unify.specs.Rooms.{AreNoLongerThan}
 use Rattle.si_unify.specs.Solving.{Pairs, variable_of, slot_of, CellIsInRange, AreInRange, Equalizes, IsSolvedBy, IsBinding, AllowsSolving}
 use Rattle.si_unify.specs.Spots.{cell_slot, IsBelow, ComesDown, IsChained, IsUnbound}
 use Rattle.si_unify.proofs.Places.{value_holds, whole_at, first_cell, cell-at, inside, in_range-at, in_range-variable, variable_of-slot_of, slot_variable}
+use Rattle.si_unify.proofs.Reading.{one_term}
 use Rattle.si_unify.proofs.Answering.{legal_at_first}
 use Rattle.si_fit.specs.Ends.{EndsAt}
 
@@ -19,6 +20,10 @@ no_cell = cell.App 0 0 0
 
 abbrev pub lent : List Cell → Bor (List Cell)
 lent cells = record { ref_ptr = (0, 0); now = cells }
+
+-- an indicator by itself
+pub indicator_whole : (cells : List Cell) (n : ℕ) → cells ≡ cell.Ind n ∷ [] → IsWhole cells
+indicator_whole cells n e = (terms.var (ind n), record { cells_are = e; sound = tt })
 
 -- ---- one variable
 -- what a solution makes of a bound variable is what it makes of its value
@@ -116,3 +121,26 @@ module _ (slots : Slots) (pairs : Pairs) (start : List Cell) where
     by : (o : Option ℕ) → cell_slot slots (get_or reached 0 no_cell) ≡ o → IsUnbound pairs o
     by None e = tt
     by (Some slot) e = bound slot e (value_at pairs slot) refl
+
+  -- ---- the first step by itself
+  pub ends_on : (reached end : List Cell) (steps : ℕ) → IsDown reached steps → EndsAt slots pairs reached end → EndsAt slots pairs start end
+  ends_on reached end steps h ends = record {
+    first = h.first;
+    first_stands = h.first_stands;
+    last = ends.last;
+    last_stands = ends.last_stands;
+    same = λ f is. h.same f is ∙ ap (terms.substitute f) (one_term reached h.last ends.first h.last_stands ends.first_stands) ∙ ends.same f is;
+    unbound = ends.unbound;
+  }
+
+  -- the slot of an indicator
+  pub indicator_slot : (number : ℕ) → start ≡ cell.Ind number ∷ [] → Some (slots.query + slots.entry + number) ≡ cell_slot slots (get_or start 0 no_cell)
+  indicator_slot number e = sym (ap (λ l. cell_slot slots (get_or l 0 no_cell)) e)
+
+  pub indicator_down : (count number : ℕ) (v : Bor (List Cell)) → start ≡ cell.Ind number ∷ [] → AllowsSolving slots pairs count → AreInRange slots start → Some v ≡ value_at pairs (slots.query + slots.entry + number) → IsDown v.now 1
+  indicator_down count number v e solving range bound =
+      down_further start 0 (slots.query + slots.entry + number) v (down_starts count solving (indicator_whole start number e) range) (indicator_slot number e) bound
+
+  pub indicator_unbound : (count number : ℕ) → start ≡ cell.Ind number ∷ [] → AllowsSolving slots pairs count → AreInRange slots start → None ≡ value_at pairs (slots.query + slots.entry + number) → EndsAt slots pairs start start
+  indicator_unbound count number e solving range free =
+      ends_unbound start 0 (down_starts count solving (indicator_whole start number e) range) (Some (slots.query + slots.entry + number)) (indicator_slot number e) (sym free)

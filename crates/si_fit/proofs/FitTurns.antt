@@ -4,10 +4,9 @@ use Rattle.std.specs.List.{AllByRecursion}
 use Rattle.si_defs.specs.Substitutions.{Substitution, image, Grows}
 use Rattle.si_flat.specs.declared.Cell.{Cell}
 use Rattle.si_flat.specs.declared.Cell.TheVariants as cell
-use Rattle.si_flat.specs.Cells.{Symbol, Variable, same_variable, IsWhole, ind}
+use Rattle.si_flat.specs.Cells.{Symbol, Variable, same_variable, IsWhole}
 use Rattle.si_flat.specs.Rows.{CellPair}
 use Rattle.si_flat.proofs.Subterms.{some_cell}
-use Rattle.si_defs.specs.Terms as terms
 use Rattle.si_unify.specs.declared.slots.Slots.{Slots}
 use Rattle.si_unify.specs.Rooms.{AreNoLongerThan}
 use Rattle.si_unify.specs.Solving.{Pairs, CellIsInRange, AreInRange, IsSolution, HasSolved, AllowsSolving}
@@ -18,10 +17,6 @@ use Rattle.si_fit.specs.Fitting.{StayWithin, AreRowsInRange, AreRowsNoLongerThan
 
 pub no_more : {X : Type 0} (xs : List X) → Grows xs xs
 no_more xs = ([], sym (append-nil xs))
-
--- an indicator by itself
-pub indicator_whole : (cells : List Cell) (n : ℕ) → cells ≡ cell.Ind n ∷ [] → IsWhole cells
-indicator_whole cells n e = (terms.var (ind n), record { cells_are = e; sound = tt })
 
 pub indicator_range : (slots : Slots) (cells : List Cell) (n : ℕ) → cells ≡ cell.Ind n ∷ [] → CellIsInRange slots (cell.Ind n) → AreInRange slots cells
 indicator_range slots cells n e h = subst (AreInRange slots) (sym e) (h, tt)

@@ -1,5 +1,6 @@
 // Where chains of bound variables end.
-ghost use Rattle.std.specs.Prelude.{ℕ, ◌≤◌, length};
+ghost use Rattle.std.specs.Prelude.{◌≡◌, ℕ, ◌≤◌, ◌∷◌, [], length};
+ghost use Rattle.si_flat.specs.declared.Cell.TheVariants.{Ind};
 ghost use Rattle.si_flat.specs.Cells.{IsWhole};
 ghost use Rattle.si_unify.specs.Rooms.{AreNoLongerThan};
 ghost use Rattle.si_unify.specs.Solving.{AreInRange, AllowsSolving};
@@ -32,4 +33,27 @@ pub fn end_of<'a>(trail: &Trail<&'a [Cell]>, slots: &Slots, start: &'a [Cell]) -
     }
     // Each binding was passed once, so none is left.
     reached
+}
+
+/// The same of an indicator with this number. Its slot is found without a look at its cell.
+#[inline(always)]
+pub(crate) fn end_of_indicator<'a>(
+    trail: &Trail<&'a [Cell]>,
+    slots: &Slots,
+    number: u32,
+    start: &'a [Cell],
+) -> &'a [Cell]
+    requires indicator { start.now ≡ Ind number ∷ [] }
+    requires range { AreInRange slots.now start.now }
+    requires solving { AllowsSolving slots.now trail.now.pairs trail.now.slots }
+    ensures ends { EndsAt slots.now trail.now.pairs start.now result.now }
+    ensures range { AreInRange slots.now result.now }
+    ensures within { (n : ℕ) → AreNoLongerThan n trail.now.pairs → length start.now ≤ n
+        → length result.now ≤ n }
+{
+    let slot = slots.query as usize + slots.entry as usize + number as usize;
+    match trail.get(slot) {
+        Some(value) => end_of(trail, slots, value),
+        None => start,
+    }
 }

@@ -1,5 +1,6 @@
 // Bindings that are made to fit those of a trail.
-ghost use Rattle.std.specs.Prelude.{◌≡◌, ℕ, ◌≤◌, ◌++◌, length, IfOk, OnErr};
+ghost use Rattle.std.specs.Prelude.{◌≡◌, ℕ, ◌≤◌, ◌++◌, ◌∷◌, [], length, IfOk, OnErr};
+ghost use Rattle.si_flat.specs.declared.Cell.TheVariants.{Ind};
 ghost use Rattle.std.specs.List.{AllByRecursion};
 ghost use Rattle.si_defs.specs.Substitutions.{Grows};
 ghost use Rattle.si_unify.specs.Rooms.{AreNoLongerThan, IsEnoughToSolve, IsNoLessRoom};
@@ -7,7 +8,7 @@ ghost use Rattle.si_unify.specs.Solving.{HasSolved, AllowsSolving};
 ghost use Rattle.si_fit.specs.Fitting.{AreRowsInRange, AreRowsNoLongerThan, AreWalkable, HasFitted, HasSolution, StaysSolvable, StayWithin};
 ghost use Rattle.si_fit.specs.Fresh.{StandOnce, IsUntold, AreFresh};
 
-use crate::ends::end_of;
+use crate::ends::end_of_indicator;
 use crate::filling::fill_any;
 use crate::meeting::Met;
 use si_flat::{Bindings, Cell};
@@ -18,15 +19,17 @@ use std::alloc::AllocError;
 // So many bound variables are followed before the solver is asked.
 const MOST_FOLLOWED: u32 = 64;
 
-// Makes two terms equal over the bindings that are there: by a walk over both, and by the solver
-// where the walk doesn't tell.
+// Makes an indicator equal to a term over the bindings that are there: by a walk over both, and by
+// the solver where the walk doesn't tell.
 fn fit_pair<'a>(
     scratch: &mut Scratch,
     trail: &mut Trail<&'a [Cell]>,
     slots: &Slots,
+    number: u32,
     left: &'a [Cell],
     right: &'a [Cell],
 ) -> Result<bool, AllocError>
+    requires indicator { left.now ≡ Ind number ∷ [] }
     requires terms { AreWalkable slots.now trail.old left.now right.now }
     requires solution { HasSolution slots.now trail.old.pairs }
     requires once { StandOnce (left.now ++ right.now) }
@@ -41,7 +44,7 @@ fn fit_pair<'a>(
     ensures within { StayWithin trail.old.pairs trail.new.pairs left.now right.now }
 {
     let mark = trail.mark();
-    let end = end_of(trail, slots, left);
+    let end = end_of_indicator(trail, slots, number, left);
     let mut budget = MOST_FOLLOWED;
     match fill_any(trail, slots, end, right, &mut budget) {
         Met::Equal => {
@@ -87,9 +90,10 @@ pub fn fit<'a>(
         → AreRowsNoLongerThan n bindings.now → AreNoLongerThan n trail.new.pairs }
 {
     for pair in bindings.pairs() {
+        let number = pair.left();
         let left = pair.left_cells();
         let right = pair.right();
-        if !fit_pair(scratch, trail, slots, left, right)? {
+        if !fit_pair(scratch, trail, slots, number, left, right)? {
             return Ok(false);
         }
     }

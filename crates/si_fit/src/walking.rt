@@ -107,6 +107,18 @@ fn meet_fixed<'a>(
     bind(trail, slots, slot, right, budget)
 }
 
+// Whether of two unbound variables the first one is to be bound: it is an indicator, or the second
+// one is the query's, to which a variable of the right side led. So where one stands often, the
+// query's variables that it meets lead to the first of them, and not each to the next.
+#[inline(always)]
+fn is_newer(one: Cell, other: Cell) -> bool {
+    match (one, other) {
+        (Cell::Ind(_), _) => true,
+        (_, Cell::Query(_)) => true,
+        _ => false,
+    }
+}
+
 // Makes a term equal to the unbound variable of a slot.
 #[cycle(walking)]
 #[inline(always)]
@@ -136,7 +148,7 @@ fn meet_unbound<'a>(
     if own == slot {
         return Met::Equal;
     }
-    if let Cell::Ind(_) = one {
+    if is_newer(one, right[0]) {
         return bind(trail, slots, own, right, budget);
     }
     bind(trail, slots, slot, left, budget)

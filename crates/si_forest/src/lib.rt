@@ -6,4 +6,5 @@ mod location;
 mod pair;
 mod trees;
 
+pub use si_descend::SearchMemory;
 pub use trees::Trees;

@@ -15,7 +15,7 @@ ghost use Rattle.si_forest.specs.Kept.{AreNoted};
 use crate::location::Location;
 use crate::pair::Pair;
 use si_defs::Relation;
-use si_descend::Counted;
+use si_descend::{Counted, SearchMemory};
 use si_flat::Flat;
 use si_legal::Posting;
 use si_term::{Clause, SymTable};
@@ -130,6 +130,7 @@ impl Trees {
     /// before.
     pub fn retrieve(
         &self,
+        memory: &mut SearchMemory,
         literal: bool,
         relation: Relation,
         query: &Flat,
@@ -140,13 +141,21 @@ impl Trees {
             out.old.items out.new.items) }
         ensures err { OnErr result (out.new.items ≡ out.old.items) }
     {
-        si_descend::retrieve(self.alloc, self.pair.tree(literal), relation, query, out)
+        si_descend::retrieve(
+            self.alloc,
+            memory,
+            self.pair.tree(literal),
+            relation,
+            query,
+            out,
+        )
     }
 
     /// Counts the postings that [`Trees::retrieve`] would append, and the open nodes. It copies no
     /// posting.
     pub fn count(
         &self,
+        memory: &mut SearchMemory,
         literal: bool,
         relation: Relation,
         query: &Flat,
@@ -154,7 +163,7 @@ impl Trees {
         requires { IsQuery query.now }
         ensures { IfOk result (CountsAnswers (tree_for literal self.now) relation query.now) }
     {
-        si_descend::count(self.alloc, self.pair.tree(literal), relation, query)
+        si_descend::count(self.alloc, memory, self.pair.tree(literal), relation, query)
     }
 }
 

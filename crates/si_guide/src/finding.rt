@@ -6,7 +6,7 @@ ghost use Rattle.si_term.specs.Meaning.{clause_of, pattern_of};
 ghost use Rattle.si_guide.specs.Steps.{KeepsClause, ShowsFirst};
 
 use si_defs::Relation;
-use si_index::{Index, Shown};
+use si_index::{Index, SearchMemory, Shown};
 use si_sign::{AddFault, ClauseStore};
 use si_term::{Clause, Pattern};
 use std::alloc::{AllocError, Global};
@@ -30,16 +30,17 @@ pub fn keep(alloc: Global, limit: u64, clause: Clause) -> Result<Option<Index>, 
 }
 
 /// What is shown of the first kept entry that stands in the relation to the pattern. `None` where
-/// none does.
+/// none does. The memory is lent from question to question.
 pub fn first_shown(
     index: &Index,
+    memory: &mut SearchMemory,
     relation: Relation,
     pattern: &Pattern,
 ) -> Result<Option<Shown>, AllocError>
     requires { IsSoundPattern (pattern_of pattern.now) }
     ensures { IfOk result (ShowsFirst index.now relation (pattern_of pattern.now)) }
 {
-    let found = index.find(index.trees(), relation, pattern)?;
+    let found = index.find(memory, index.trees(), relation, pattern)?;
     if found.len() == 0 {
         return Ok(None);
     }

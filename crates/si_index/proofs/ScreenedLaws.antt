@@ -22,7 +22,7 @@ use Rattle.si_index.proofs.SlotLaws.{clause_among}
 use Rattle.si_index.specs.declared.subsuming.Direction.{Direction}
 use Rattle.si_index.specs.declared.subsuming.Direction.TheVariants.{ToFormula, FromFormula}
 use Rattle.si_index.specs.Slots.{Slots, HaveSlotRows}
-use Rattle.si_index.specs.Subsuming.{AreMappedFrom, IsMapIn, PassesIn, Tries, TriesSlot, TriesSlots}
+use Rattle.si_index.specs.Subsuming.{AreMappedFrom, ArePassing, IsMapIn, PassesIn, Tries, TriesSlot, TriesSlots}
 use Rattle.si_index.specs.declared.subsuming.Mapped.{Mapped}
 
 -- what is left of a list after its first
@@ -208,10 +208,10 @@ are_screened numbers extra direction formula slots rows row have known of_formul
       passes ToFormula other of_clause ns is = rows_follow number (clause_of c).literals formula other row (ns, is) of_clause of_formula
       passes FromFormula other of_clause ns is = rows_follow number formula (clause_of c).literals row other (ns, is) of_formula of_clause
 
--- Where the clauses in the slots that passed were tried, all that have a map are named.
-pub screened_named : (numbers : Numbering) (extra : List Symbol) (direction : Direction) (formula : List Literal) (clauses : List Clause) (slots : Slots) (rows : List (List ℕ)) (row qs : List ℕ) (new : List Mapped) → HaveSlotRows numbers slots rows
-    → AllByRecursion (IsKnownClause numbers) clauses → clauses_of (placed_items slots) ≡ clauses → IsRowOf (number_in (with_extra numbers extra)) formula row → PlacesRise slots
-    → AppendsPositions (PassesIn direction row) rows [] qs → TriesSlots (IsMapIn direction formula) slots qs [] new → AreMappedFrom (IsMapIn direction formula) 0 clauses new
-screened_named numbers extra direction formula clauses slots rows row qs new have known same of_formula rise passed tries =
-    let screened = are_screened numbers extra direction formula slots rows row have (subst (AllByRecursion (IsKnownClause numbers)) (sym same) known) of_formula rise in
-    subst (λ cs. AreMappedFrom (IsMapIn direction formula) 0 cs new) same (all_named (IsMapIn direction formula) (PassesIn direction row) slots rise rows screened qs new passed tries)
+-- Where the clauses in the slots that pass were tried, all that have a map are named.
+pub screened_named : (numbers : Numbering) (direction : Direction) (formula : List Literal) (clauses : List Clause) (slots : Slots) (rows : List (List ℕ)) (qs : List ℕ) (new : List Mapped) → HaveSlotRows numbers slots rows
+    → AllByRecursion (IsKnownClause numbers) clauses → clauses_of (placed_items slots) ≡ clauses → PlacesRise slots
+    → ArePassing numbers direction formula rows qs → TriesSlots (IsMapIn direction formula) slots qs [] new → AreMappedFrom (IsMapIn direction formula) 0 clauses new
+screened_named numbers direction formula clauses slots rows qs new have known same rise passing tries =
+    let screened = are_screened numbers passing.of_formula.0 direction formula slots rows passing.row have (subst (AllByRecursion (IsKnownClause numbers)) (sym same) known) passing.of_formula.1 rise in
+    subst (λ cs. AreMappedFrom (IsMapIn direction formula) 0 cs new) same (all_named (IsMapIn direction formula) (PassesIn direction passing.row) slots rise rows screened qs new passing.appended tries)

@@ -1,17 +1,23 @@
 -- The kept clauses that subsume a formula, and those that it subsumes: by position, each with its
 -- map.
-use Rattle.std.specs.Prelude.{◌≡◌, ◌⊎◌, ℕ, suc, List, [], ◌∷◌, ◌++◌, slice_get, Some}
+use Rattle.std.specs.Prelude.{◌≡◌, ◌⊎◌, ℕ, ◌≤◌, suc, List, [], ◌∷◌, ◌++◌, length, slice_get, Some}
+use Rattle.std.specs.List.{AllByRecursion}
 use Rattle.si_defs.specs.Clauses.{Literal, Clause}
-use Rattle.si_defs.specs.Symbols.{IsNumbering}
+use Rattle.si_defs.specs.Symbols.{Symbol, Numbering, IsNumbering}
+use Rattle.si_defs.specs.declared.TheConstants.{MOST_OCCURRENCES}
 use Rattle.si_state.specs.Signatures.{numbering}
 use Rattle.si_state.specs.Subsumption.{IsMap, IsLeast}
 use Rattle.si_flat.specs.declared.Owner.{Owner}
 use Rattle.si_flat.specs.declared.Owner.TheVariants.{Query, Entry}
 use Rattle.si_flat.specs.FlatClauses.{FlattensClause}
+use Rattle.si_flat.specs.Numbered.{number_in}
 use Rattle.si_term.specs.Meaning.{clause_of}
 use Rattle.si_term.specs.declared.clause.Clause as term
-use Rattle.si_keyed.specs.Placed.{HasPlace}
-use Rattle.si_lanes.specs.Rows.{IsSubset}
+use Rattle.si_keyed.specs.Placed.{placed_items, HasPlace, PlacesRise}
+use Rattle.si_lanes.specs.Rows.{IsSubset, AppendsPositions}
+use Rattle.si_screen.specs.ClauseRows.{IsRowOf, with_extra}
+use Rattle.si_index.specs.Kept.{clauses_of}
+use Rattle.si_index.specs.Searching.{IsKnownClause}
 use Rattle.si_index.specs.Slots.{Slots}
 use Rattle.si_index.specs.declared.subsuming.Direction.{Direction}
 use Rattle.si_index.specs.declared.subsuming.Direction.TheVariants.{ToFormula, FromFormula}
@@ -69,6 +75,25 @@ HasMap P c = (ns : List ℕ) × P c.literals ns
 abbrev pub PassesIn : Direction → (formula : List ℕ) → (row : List ℕ) → Type 0
 PassesIn ToFormula formula row = IsSubset row formula
 PassesIn FromFormula formula row = IsSubset formula row
+
+-- it is the row of the formula, with numbers after these for the symbols that have none
+abbrev pub IsFormulaRow : Numbering → List Literal → List ℕ → Type 0
+IsFormulaRow numbers formula row =
+    (extra : List Symbol) × IsRowOf (number_in (with_extra numbers extra)) formula row
+
+-- these are the slots whose rows allow a map
+pub record ArePassing (numbers : Numbering) (direction : Direction) (formula : List Literal)
+    (rows : List (List ℕ)) (slots : List ℕ) : Type 0 where
+  pub row : List ℕ
+  pub of_formula : IsFormulaRow numbers formula row
+  pub appended : AppendsPositions (PassesIn direction row) rows [] slots
+
+-- ---- trying clauses
+-- the clauses in the slots are sound, and their symbols have numbers
+pub record AreKnownSlots (numbers : Numbering) (slots : Slots) : Type 0 where
+  pub clauses : AllByRecursion (IsKnownClause numbers) (clauses_of (placed_items slots))
+  pub few : length slots ≤ MOST_OCCURRENCES
+  pub rise : PlacesRise slots
 
 -- the clause in this slot was tried, if there is one
 abbrev pub TriesSlot : (List Literal → List ℕ → Type 0) → Slots → ℕ → List Mapped

@@ -9,7 +9,7 @@ ghost use Rattle.si_legal.specs.declared.Posting as posting;
 
 use si_defs::Relation;
 use si_flat::Flat;
-use si_forest::Trees;
+use si_forest::{SearchMemory, Trees};
 use si_legal::Posting;
 use std::alloc::AllocError;
 
@@ -25,9 +25,11 @@ pub trait Engine {
     /// Whether the engine counts so much at a question.
     ghost count: { Self → Bool → defs.Relation → List cell.Cell → ℕ → Type 0 };
 
-    /// Appends the answers, each once, and answers the count. At an error `out` is as before.
+    /// Appends the answers, each once, and answers the count. At an error `out` is as before. The
+    /// memory is lent from question to question.
     fn ask(
         &self,
+        memory: &mut SearchMemory,
         literal: bool,
         relation: Relation,
         query: &Flat,
@@ -52,6 +54,7 @@ impl Engine for Trees {
 
     fn ask(
         &self,
+        memory: &mut SearchMemory,
         literal: bool,
         relation: Relation,
         query: &Flat,
@@ -59,6 +62,6 @@ impl Engine for Trees {
     ) -> Result<u64, AllocError> {
         // So its cells are known to be those of a term.
         query.cells();
-        self.retrieve(literal, relation, query, out)
+        self.retrieve(memory, literal, relation, query, out)
     }
 }

@@ -8,6 +8,7 @@ use crate::found::asks_literals;
 use crate::index::Index;
 use si_defs::Relation;
 use si_flat::{FlatQuery, flatten_pattern};
+use si_forest::SearchMemory;
 use si_term::Pattern;
 use std::alloc::AllocError;
 
@@ -24,18 +25,24 @@ pub struct Explained {
 
 impl Index {
     /// Counts what a query passes and answers. It makes no list of a hit, and copies no posting.
-    pub fn explain(&self, relation: Relation, pattern: &Pattern) -> Result<Explained, AllocError>
+    pub fn explain(
+        &self,
+        memory: &mut SearchMemory,
+        relation: Relation,
+        pattern: &Pattern,
+    ) -> Result<Explained, AllocError>
         requires { IsSoundPattern (pattern_of pattern.now) }
         ensures { IfOk result (Explains self.now relation (pattern_of pattern.now)) }
     {
         let query = flatten_pattern(self.allocator(), self.signature(), pattern)?;
-        self.explain_flat(relation, asks_literals(pattern), &query)
+        self.explain_flat(memory, relation, asks_literals(pattern), &query)
     }
 
     /// The same for a query that was made flat before, by the numbers of this index's signature.
     /// `literal` says whether literals are asked for.
     pub fn explain_flat(
         &self,
+        memory: &mut SearchMemory,
         relation: Relation,
         literal: bool,
         query: &FlatQuery,
@@ -48,7 +55,7 @@ impl Index {
         self.stats();
         self.signature();
         let trees = self.trees();
-        let counted = trees.count(literal, relation, &query.flat)?;
+        let counted = trees.count(memory, literal, relation, &query.flat)?;
         Ok(Explained {
             passed: counted.passed,
             nodes: trees.tree(literal).counts().nodes,

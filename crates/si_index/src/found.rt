@@ -13,6 +13,7 @@ use crate::search::Search;
 use crate::wanted::{Leaf, Ordered, in_order};
 use si_defs::Relation;
 use si_flat::flatten_with_names;
+use si_forest::SearchMemory;
 use si_form::Solution;
 use si_sign::Signature;
 use si_term::{Clause, Pattern, Place, Syms, Texts, vars_of};
@@ -217,6 +218,7 @@ impl Index {
     /// Each clause that has hits is walked through once.
     pub fn find<'a, E: Engine>(
         &'a self,
+        memory: &mut SearchMemory,
         engine: &E,
         relation: Relation,
         pattern: &'a Pattern,
@@ -238,7 +240,7 @@ impl Index {
         let named = flatten_with_names(alloc, signature, pattern)?;
         let mut postings = Vec::new(alloc);
         let literal = asks_literals(pattern);
-        let passed = engine.ask(literal, relation, &named.query.flat, &mut postings)?;
+        let passed = engine.ask(memory, literal, relation, &named.query.flat, &mut postings)?;
         let trees = self.trees();
         let slots = self.slots();
         let ordered = in_order(self, &slots, trees, literal, postings.as_slice())?;

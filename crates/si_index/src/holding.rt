@@ -1,16 +1,22 @@
 // Which clauses hold an instance of a literal.
-ghost use Rattle.std.specs.Prelude.{◌≡◌, ◌<◌, ℕ, Bool, true, IfOk, IsTrue, length, slice_set};
+ghost use Rattle.std.specs.Prelude.{◌≡◌, ◌<◌, ℕ, Bool, true, IfOk, IsTrue, OnOk, length, slice_set};
 ghost use Rattle.std.specs.List.{AllByRecursion};
 ghost use Rattle.si_defs.specs.Clauses.{IsSoundClause, IsSoundPattern, literal_pattern};
 ghost use Rattle.si_defs.specs.Entries.{Entry};
 ghost use Rattle.si_defs.specs.Substitutions.{IsAmong, AreDistinct};
 ghost use Rattle.si_defs.specs.declared.Relation.TheVariants.{Instances};
 ghost use Rattle.si_state.specs.Answers.{Stands};
+ghost use Rattle.si_state.specs.Signatures.{numbering};
 ghost use Rattle.si_term.specs.Meaning.{literal_of};
+ghost use Rattle.si_flat.specs.Flattened.{FlattensPattern};
+ghost use Rattle.si_flat.specs.declared.Owner.TheVariants.{Query};
+ghost use Rattle.si_form.specs.Answers.{AreNumbered};
 ghost use Rattle.si_keyed.specs.Keyed.{item_keys, HasKey};
 ghost use Rattle.si_keyed.specs.Placed.{placed_items, HasPlace};
 ghost use Rattle.si_legal.specs.declared.Posting as posting;
+ghost use Rattle.si_legal.specs.Engines.{AppendsAnswers};
 ghost use Rattle.si_legal.specs.KeptTrees.{IsPostingOf};
+ghost use Rattle.si_index.specs.Engines.{IsStoredFor};
 ghost use Rattle.si_index.specs.Kept.{kept_clauses};
 ghost use Rattle.si_index.specs.Slots.{HasSlots};
 ghost use Rattle.si_index.specs.Holding.{IsRuledOut, MarksAll, SparesHolders};
@@ -18,9 +24,11 @@ ghost use Rattle.si_index.specs.Holding.{IsRuledOut, MarksAll, SparesHolders};
 use crate::engine::Engine;
 use crate::index::Index;
 use si_defs::Relation;
-use si_flat::flatten_pattern;
+use si_flat::{Flat, FlatQuery, flatten_pattern};
+use si_forest::{SearchMemory, Trees};
 use si_keyed::Places;
 use si_legal::Posting;
+use si_sign::Signature;
 use si_term::{Clause, Literal, Pattern};
 use std::alloc::{AllocError, Global};
 
@@ -113,11 +121,40 @@ fn instances(index: &Index, literal: &Literal) -> Result<Vec<Posting>, AllocErro
 {
     let alloc = index.allocator();
     let signature = index.signature();
+    let trees = index.trees();
+    let query = query_of(alloc, signature, literal)?;
+    let mut postings = Vec::new(alloc);
+    ask_trees(alloc, trees, &query.flat, &mut postings)?;
+    Ok(postings)
+}
+
+/// The flat query of a literal.
+fn query_of(
+    alloc: Global,
+    signature: &Signature,
+    literal: &Literal,
+) -> Result<FlatQuery, AllocError>
+    requires { IsSoundPattern (literal_pattern (literal_of literal.now)) }
+    ensures { IfOk result (FlattensPattern (numbering signature.now)
+        (literal_pattern (literal_of literal.now))) }
+{
     let copy = literal.copy(alloc)?;
     let pattern = Pattern::Lit(copy);
-    let query = flatten_pattern(alloc, signature, &pattern)?;
-    let trees = index.trees();
-    let mut postings = Vec::new(alloc);
-    trees.ask(true, Relation::Instances, &query.flat, &mut postings)?;
-    Ok(postings)
+    flatten_pattern(alloc, signature, &pattern)
+}
+
+/// Appends the postings that the tree of literals answers for its instances.
+fn ask_trees(
+    alloc: Global,
+    trees: &Trees,
+    query: &Flat,
+    postings: &mut Vec<Posting>,
+) -> Result<(), AllocError>
+    requires { AreNumbered Query query.now }
+    ensures { OnOk result (AppendsAnswers (IsStoredFor trees.now true Instances query.now)
+        postings.old.items postings.new.items) }
+{
+    let mut memory = SearchMemory::new(alloc);
+    trees.ask(&mut memory, true, Relation::Instances, query, postings)?;
+    Ok(())
 }

@@ -21,6 +21,6 @@ pub use found::{Found, Hit, Lent, Shown};
 pub use index::{Index, Stats, TreeCounts};
 pub use si_defs::Relation;
 pub use si_flat::LitMap;
-pub use si_forest::Trees;
+pub use si_forest::{SearchMemory, Trees};
 pub use si_tree::{Counts, Posting};
 pub use subsuming::{Mapped, Mappeds};

@@ -1,5 +1,5 @@
 // The kept clauses that subsume a formula, and those that it subsumes.
-ghost use Rattle.std.specs.Prelude.{◌≡◌, ◌<◌, ◌≤◌, ◌-◌, ◌^◌, ℕ, [], IfOk, OnOk, length, map};
+ghost use Rattle.std.specs.Prelude.{◌≡◌, ◌<◌, ◌-◌, ◌^◌, ℕ, [], IfOk, OnOk, length, map};
 ghost use Rattle.std.specs.List.{AllByRecursion};
 ghost use Rattle.si_defs.specs.Clauses.{IsSoundClause, AreSoundLiterals};
 ghost use Rattle.si_form.specs.TableNumbers.{HaveNumbers};
@@ -7,14 +7,12 @@ ghost use Rattle.si_state.specs.Subsumption.{IsMap, AnswersLeast};
 ghost use Rattle.si_defs.specs.Entries.{literals_symbols};
 ghost use Rattle.si_term.specs.Meaning.{literal_of};
 ghost use Rattle.si_state.specs.Signatures.{numbering};
-ghost use Rattle.si_defs.specs.declared.TheConstants.{MOST_OCCURRENCES};
-ghost use Rattle.si_keyed.specs.Placed.{placed_items, HasPlace, PlacesRise};
+ghost use Rattle.si_defs.specs.Symbols.{IsNumbering};
+ghost use Rattle.si_keyed.specs.Placed.{HasPlace};
 ghost use Rattle.si_lanes.specs.Rows.{AppendsPositions};
 ghost use Rattle.si_index.specs.Holding.{Spares};
-ghost use Rattle.si_index.specs.Kept.{clauses_of};
 ghost use Rattle.si_index.specs.Slots.{HasSlots};
-ghost use Rattle.si_index.specs.Searching.{IsKnownClause};
-ghost use Rattle.si_index.specs.Subsuming.{AreMappedFrom, HasMap, IsFlatFormula, IsMapIn, PassesIn, TriesSlot, TriesSlots, clause_owner, formula_owner, from_to};
+ghost use Rattle.si_index.specs.Subsuming.{AreKnownSlots, AreMappedFrom, ArePassing, HasMap, IsFlatFormula, IsFormulaRow, IsMapIn, PassesIn, TriesSlot, TriesSlots, clause_owner, formula_owner, from_to};
 
 use crate::holding::Holders;
 use crate::index::Index;
@@ -144,10 +142,7 @@ impl<'a> Comparison<'a> {
         requires formula { AreSoundLiterals (map literal_of self.now.formula.now) }
         requires flat { IsFlatFormula self.now.direction (map literal_of self.now.formula.now)
             flat.now }
-        requires clauses { AllByRecursion (IsKnownClause (numbering flat.now.signature.now))
-            (clauses_of (placed_items places.now)) }
-        requires few { length places.now ≤ MOST_OCCURRENCES }
-        requires rise { PlacesRise places.now }
+        requires known { AreKnownSlots (numbering flat.now.signature.now) places.now }
         ensures { OnOk result (TriesSlot (IsMapIn self.now.direction
             (map literal_of self.now.formula.now)) places.now slot mappeds.old mappeds.new) }
     {
@@ -187,6 +182,30 @@ impl<'a> Comparison<'a> {
         }
     }
 
+    /// The row of the formula. Its symbols that the index lacks have numbers after the others.
+    fn row(&self, signature: &Signature) -> Result<Row, AllocError>
+        requires { AreSoundLiterals (map literal_of self.now.formula.now) }
+        ensures { IfOk result (IsFormulaRow (numbering signature.now)
+            (map literal_of self.now.formula.now)) }
+    {
+        let literals = self.formula.as_slice();
+        let extra = Extra::of(self.alloc, signature, literals)?;
+        Ok(literals_row(signature, &extra, literals))
+    }
+
+    /// The slots whose rows allow a map.
+    fn passing(&self, signature: &Signature, rows: &[Row]) -> Result<Vec<u32>, AllocError>
+        requires formula { AreSoundLiterals (map literal_of self.now.formula.now) }
+        requires few { length rows.now < 2 ^ 32 - 1 }
+        ensures { IfOk result (λ slots. ArePassing (numbering signature.now) self.now.direction
+            (map literal_of self.now.formula.now) rows.now slots.items) }
+    {
+        let row = self.row(signature)?;
+        let mut slots = Vec::new(self.alloc);
+        self.pass(&row, rows, &mut slots)?;
+        Ok(slots)
+    }
+
     /// The clauses that have a map, each with the least. Only those are tried whose rows and
     /// literals allow one, and where no row does, neither is the tree of literals asked nor the
     /// formula made flat; no clause says so.
@@ -196,23 +215,58 @@ impl<'a> Comparison<'a> {
             (map literal_of self.now.formula.now)) 0 index.now.clauses) }
     {
         let signature = index.signature();
-        let literals = self.formula.as_slice();
-        let extra = Extra::of(self.alloc, signature, literals)?;
-        let row = literals_row(signature, &extra, literals);
         let (places, rows) = index.slots_and_rows();
-        let mut slots = Vec::new(self.alloc);
-        self.pass(&row, rows, &mut slots)?;
+        let slots = self.passing(signature, rows)?;
         if slots.is_empty() {
             return Ok(Mappeds::new(self.alloc));
         }
-        let holders = self.holders(index, &places, rows.len())?;
+        self.try_passing(index, &places, rows.len(), slots.as_slice())
+    }
+
+    /// The clauses in these slots that have a map, each with the least, where the index has so many
+    /// slots. The tree of literals is asked first.
+    fn try_passing(
+        &self,
+        index: &Index,
+        places: &Places<'_, Clause>,
+        count: usize,
+        slots: &[u32],
+    ) -> Result<Mappeds, AllocError>
+        requires formula { AreSoundLiterals (map literal_of self.now.formula.now) }
+        requires clauses { AllByRecursion IsSoundClause index.now.clauses }
+        requires places { HasSlots index.now places.now }
+        requires all { (slot : ℕ) → HasPlace places.now slot → slot < count }
+        ensures { IfOk result (TriesSlots (IsMapIn self.now.direction
+            (map literal_of self.now.formula.now)) places.now slots.now []) }
+    {
+        let holders = self.holders(index, places, count)?;
+        self.try_held(index.signature(), places, &holders, slots)
+    }
+
+    /// The same of those that aren't ruled out. The formula is made flat first.
+    fn try_held(
+        &self,
+        signature: &Signature,
+        places: &Places<'_, Clause>,
+        holders: &Holders,
+        slots: &[u32],
+    ) -> Result<Mappeds, AllocError>
+        requires formula { AreSoundLiterals (map literal_of self.now.formula.now) }
+        requires numbering { IsNumbering (numbering signature.now) }
+        requires known { AreKnownSlots (numbering signature.now) places.now }
+        requires spares { Spares (HasMap (IsMapIn self.now.direction
+            (map literal_of self.now.formula.now))) places.now holders.now }
+        ensures { IfOk result (TriesSlots (IsMapIn self.now.direction
+            (map literal_of self.now.formula.now)) places.now slots.now []) }
+    {
         let mut buffer = ClauseBuffer::new(self.alloc);
-        buffer.fill(signature, self.direction.formula_owner(), literals)?;
+        let owner = self.direction.formula_owner();
+        buffer.fill(signature, owner, self.formula.as_slice())?;
         let flat = FlatFormula {
             signature,
             cells: buffer.cells(),
         };
-        self.try_slots(&flat, &places, &holders, slots.as_slice())
+        self.try_slots(&flat, places, holders, slots)
     }
 
     /// The clauses in these slots that have a map, each with the least.
@@ -226,10 +280,7 @@ impl<'a> Comparison<'a> {
         requires formula { AreSoundLiterals (map literal_of self.now.formula.now) }
         requires flat { IsFlatFormula self.now.direction (map literal_of self.now.formula.now)
             flat.now }
-        requires clauses { AllByRecursion (IsKnownClause (numbering flat.now.signature.now))
-            (clauses_of (placed_items places.now)) }
-        requires few { length places.now ≤ MOST_OCCURRENCES }
-        requires rise { PlacesRise places.now }
+        requires known { AreKnownSlots (numbering flat.now.signature.now) places.now }
         requires spares { Spares (HasMap (IsMapIn self.now.direction
             (map literal_of self.now.formula.now))) places.now holders.now }
         ensures { IfOk result (TriesSlots (IsMapIn self.now.direction

@@ -14,7 +14,7 @@ use crate::question::{Question, Workspace};
 use si_defs::Relation;
 use si_flat::Flat;
 use si_form::CountedQuery;
-use si_index::{Engine, Index};
+use si_index::{Engine, Index, SearchMemory};
 use si_legal::Posting;
 use si_term::{Clause, Entry, Literal, Term};
 use std::alloc::{AllocError, Global};
@@ -60,6 +60,7 @@ impl<'a> Engine for Scan<'a> {
 
     fn ask(
         &self,
+        _memory: &mut SearchMemory,
         literal: bool,
         relation: Relation,
         query: &Flat,

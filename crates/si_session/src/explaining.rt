@@ -11,7 +11,7 @@ ghost use Rattle.si_session.specs.Explained.{AsksForLiterals, IsExplained};
 use crate::command::kind_of;
 use crate::word::relation_of;
 use si_defs::Relation;
-use si_index::{Explained, Index};
+use si_index::{Explained, Index, SearchMemory};
 use si_lex::{Lexeme, TokensEnd, lex};
 use si_parse::pattern::PatternKind;
 use si_query::read_flat;
@@ -28,21 +28,31 @@ struct Question<'t, 'b> {
 /// What the query of a line passes and answers, if the line is the command to explain one, and its
 /// pattern has only symbols of kept clauses. `None` says nothing: the line is to be read as any
 /// other is.
-pub fn explained_at_once(alloc: Global, index: &Index, line: &[u8]) -> Option<Explained>
+pub fn explained_at_once(
+    alloc: Global,
+    index: &Index,
+    memory: &mut SearchMemory,
+    line: &[u8],
+) -> Option<Explained>
     requires { length line.now ≤ MOST_BYTES }
     ensures { IfSome result (IsExplained index.now line.now) }
 {
     if !line.starts_with(b"explain") {
         return None;
     }
-    match explained(alloc, index, line) {
+    match explained(alloc, index, memory, line) {
         Ok(found) => found,
         Err(_) => None,
     }
 }
 
 /// The same, whatever the line begins with. At an error nothing is said.
-fn explained(alloc: Global, index: &Index, line: &[u8]) -> Result<Option<Explained>, AllocError>
+fn explained(
+    alloc: Global,
+    index: &Index,
+    memory: &mut SearchMemory,
+    line: &[u8],
+) -> Result<Option<Explained>, AllocError>
     requires { length line.now ≤ MOST_BYTES }
     ensures { IfOk result (λ found. IfSome found (IsExplained index.now line.now)) }
 {
@@ -57,7 +67,8 @@ fn explained(alloc: Global, index: &Index, line: &[u8]) -> Result<Option<Explain
         return Ok(None);
     };
     let literal = asks_literals(question.kind);
-    Ok(Some(index.explain_flat(question.relation, literal, &query)?))
+    let found = index.explain_flat(memory, question.relation, literal, &query)?;
+    Ok(Some(found))
 }
 
 /// The question that these tokens ask, of which the pattern's come last.

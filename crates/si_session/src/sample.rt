@@ -16,7 +16,7 @@ use crate::reply::{ReplyLine, tell};
 use crate::stepped::Stepped;
 use si_defs::Relation;
 use si_harvest::{HarvestFault, Loaded, roll_back, take_text};
-use si_index::Index;
+use si_index::{Index, SearchMemory};
 use si_io::Sink;
 use si_term::{Clause, Entry, Pattern, entry_at, entry_count, to_pattern};
 use std::alloc::{AllocError, Global};
@@ -93,15 +93,21 @@ fn sum_last(alloc: Global, index: &Index, count: u32) -> Result<u64, AllocError>
     ensures { IfOk result (SumsLast index.now.clauses count) }
 {
     let kept = index.stats().clauses;
+    let mut memory = SearchMemory::new(alloc);
     let mut sum = 0;
     for at in kept - count..kept {
-        sum += sum_clause(alloc, index, index.clause(at))?;
+        sum += sum_clause(alloc, index, &mut memory, index.clause(at))?;
     }
     Ok(sum)
 }
 
 /// How many answers there are to the entries of a clause.
-fn sum_clause(alloc: Global, index: &Index, clause: &Clause) -> Result<u64, AllocError>
+fn sum_clause(
+    alloc: Global,
+    index: &Index,
+    memory: &mut SearchMemory,
+    clause: &Clause,
+) -> Result<u64, AllocError>
     requires sound { IsSoundClause (clause_of clause.now) }
     requires few { length (entries (clause_of clause.now)) ≤ MOST_OCCURRENCES }
     ensures sums { IfOk result (SumsAnswers (state_entries index.now.clauses)
@@ -111,29 +117,38 @@ fn sum_clause(alloc: Global, index: &Index, clause: &Clause) -> Result<u64, Allo
 {
     let mut sum = 0;
     for number in 0..entry_count(clause) {
-        sum += u64::from(count_answers(alloc, index, entry_at(clause, number))?);
+        sum += u64::from(count_answers(alloc, index, memory, entry_at(clause, number))?);
     }
     Ok(sum)
 }
 
 /// How many answers there are to an entry.
-fn count_answers(alloc: Global, index: &Index, entry: Entry<'_>) -> Result<u32, AllocError>
+fn count_answers(
+    alloc: Global,
+    index: &Index,
+    memory: &mut SearchMemory,
+    entry: Entry<'_>,
+) -> Result<u32, AllocError>
     requires { IsSoundEntry (entry_of entry) }
     ensures { IfOk result (CountsAnswers (state_entries index.now.clauses)
         (entry_of entry.entry)) }
 {
     let pattern = to_pattern(alloc, entry)?;
-    count_unifiable(index, &pattern)
+    count_unifiable(index, memory, &pattern)
 }
 
 /// How many entries unify with a pattern. None of them is listed.
-fn count_unifiable(index: &Index, pattern: &Pattern) -> Result<u32, AllocError>
+fn count_unifiable(
+    index: &Index,
+    memory: &mut SearchMemory,
+    pattern: &Pattern,
+) -> Result<u32, AllocError>
     requires { IsSoundPattern (pattern_of pattern.now) }
     ensures { IfOk result (CountsUnifiable (state_entries index.now.clauses)
         (pattern_of pattern.now)) }
 {
     let kept = index.stats();
-    let explained = index.explain(Relation::Unifiable, pattern)?;
+    let explained = index.explain(memory, Relation::Unifiable, pattern)?;
     prove!(explained.answers <= kept.entries);
     Ok(explained.answers as u32)
 }

@@ -24,7 +24,7 @@ use crate::subsumption::{subsumed, subsumers};
 use crate::trees::{explain, tell_trees};
 use si_defs::Relation;
 use si_harvest::{HarvestLimits, expand};
-use si_index::Index;
+use si_index::{Index, SearchMemory};
 use si_io::{Library, Sink};
 use si_sign::ClauseStore;
 use si_steps::Limits;
@@ -38,6 +38,8 @@ pub struct Session {
     alloc: Global,
     limits: Limits,
     index: Index,
+    // What one question lends to the next.
+    memory: SearchMemory,
 }
 
 impl Model for Session {
@@ -64,6 +66,7 @@ impl Session {
             alloc,
             limits: *limits,
             index: Index::new(alloc, limits.entries)?,
+            memory: SearchMemory::new(alloc),
         })
     }
 
@@ -92,7 +95,12 @@ impl Session {
         if line.len() > self.limits.line {
             return tell(sink, ReplyLine::Long);
         }
-        if let Some(explained) = explained_at_once(self.alloc, &self.index, line) {
+        if let Some(explained) = explained_at_once(
+            self.alloc,
+            &self.index,
+            &mut self.memory,
+            line,
+        ) {
             return tell(sink, ReplyLine::Explained(explained));
         }
         match read_command(self.alloc, line) {
@@ -110,14 +118,14 @@ impl Session {
             ),
             Ok(Command::Remove(name)) => remove(&mut self.index, name, sink),
             Ok(Command::Query(relation, pattern)) => {
-                answer(&self.index, relation, &pattern, sink)
+                answer(&self.index, &mut self.memory, relation, &pattern, sink)
             }
             Ok(Command::Subsumers(formula)) => subsumers(&self.index, &formula, sink),
             Ok(Command::Subsumed(formula)) => subsumed(&self.index, &formula, sink),
             Ok(Command::Stats) => tell(sink, ReplyLine::Stats(self.index.stats())),
             Ok(Command::Tree) => tell_trees(sink, self.index.counts()),
             Ok(Command::Explain(relation, pattern)) => {
-                explain(&self.index, relation, &pattern, sink)
+                explain(&self.index, &mut self.memory, relation, &pattern, sink)
             }
             Ok(Command::Sample { start, count }) => {
                 sample(self.alloc, &mut self.index, start, count, sink)
@@ -272,13 +280,19 @@ fn remove<K: Sink>(index: &mut Index, name: Name, sink: &mut K) -> Stepped
 }
 
 /// Answers which entries stand in a relation to a pattern.
-fn answer<K: Sink>(index: &Index, relation: Relation, pattern: &Pattern, sink: &mut K) -> Stepped
+fn answer<K: Sink>(
+    index: &Index,
+    memory: &mut SearchMemory,
+    relation: Relation,
+    pattern: &Pattern,
+    sink: &mut K,
+) -> Stepped
     requires { IsSoundPattern (pattern_of pattern.now) }
     ensures acts { ActsOn (query relation (pattern_of pattern.now)) index.now index.now result
         (K.shown sink.old) (K.shown sink.new) }
     ensures faults { CountsSinkFault result (K.shown sink.old) (K.shown sink.new) }
 {
-    let found = match index.find(index.trees(), relation, pattern) {
+    let found = match index.find(memory, index.trees(), relation, pattern) {
         Ok(found) => found,
         Err(_) => return tell(sink, ReplyLine::Memory),
     };

@@ -16,7 +16,7 @@ use crate::separator::{Separator, put_separator};
 use crate::short_reply::ShortReply;
 use crate::stepped::Stepped;
 use si_defs::Relation;
-use si_index::{Index, TreeCounts};
+use si_index::{Index, SearchMemory, TreeCounts};
 use si_io::{Failed, Sink, write_lines};
 use si_term::Pattern;
 use si_tree::Counts;
@@ -68,6 +68,7 @@ pub fn put_tree<K: Sink>(sink: &mut K, words: &[u8], counts: Counts) -> Result<(
 /// Writes what a query passes in its tree, and how many answers it has.
 pub fn explain<K: Sink>(
     index: &Index,
+    memory: &mut SearchMemory,
     relation: Relation,
     pattern: &Pattern,
     sink: &mut K,
@@ -77,7 +78,7 @@ pub fn explain<K: Sink>(
         (K.shown sink.old) (K.shown sink.new) }
     ensures faults { CountsSinkFault result (K.shown sink.old) (K.shown sink.new) }
 {
-    match index.explain(relation, pattern) {
+    match index.explain(memory, relation, pattern) {
         Ok(explained) => tell(sink, ReplyLine::Explained(explained)),
         Err(_) => tell(sink, ReplyLine::Memory),
     }

@@ -1,17 +1,33 @@
 -- Pairs of slots and values, and the places beside them.
 use Rattle.std.proofs.Common.{◌≡◌, ◌≢◌, ℕ, zero, suc, ◌+◌, ◌<◌, ◌≤◌, ◌⊎◌, inl, inr, true, false, cond, List, [], ◌∷◌, ◌++◌, length, get_or, map, take, drop, refl, sym, ◌∙◌, ap, subst, arith, append_assoc, length-append, Option, None, Some}
-use Rattle.std.proofs.lemmas.List.{take-append-drop, length-map}
-use Rattle.std.proofs.lemmas.Option.{slice_get_read, slice_get_within}
+use Rattle.std.proofs.lemmas.List.{take-append-drop, length-map, length-set, get_or-set_same, get_or-set_other}
+use Rattle.std.proofs.Math.ListN.{set}
+use Rattle.std.proofs.lemmas.Option.{slice_get_read, slice_get_within, get_or_from_slice_get, slice_get-get_or}
 use Rattle.std.proofs.lemmas.Bool.Decides.{eqb_tells}
 use Rattle.std.proofs.lemmas.Bool.{eq-eqb}
 use Rattle.std.proofs.lemmas.Map.Steps.{length-le_from_distinct_below}
 use Rattle.std.proofs.Math.Dec.{eqb}
 use Rattle.std.specs.Prelude.{◌==◌, slice_get, option_map}
 use Rattle.std.specs.List.{AllByRecursion, IsDistinct, list_any}
-use Rattle.si_trail.specs.declared.pages.Pages.{Pages}
-use Rattle.si_trail.specs.Pages.{IsSet, ArePages, StaysBut}
-use Rattle.si_trail.specs.Bound.{IsTableOf}
+use Rattle.si_trail.specs.Bound.{IsSet, IsTableOf}
 use Rattle.si_trail.specs.Trails.{Trail, value_at, HasDistinctSlots, HasSlotsBelow, AreUnbound}
+
+-- what was set stays so, but for one slot
+set_stays : (places : List ℕ) (slot place k there : ℕ) → k ≢ slot → IsSet places k there → IsSet (set places slot place) k there
+set_stays places slot place k there differs is =
+    let within : k < length (set places slot place) = omega (arith, length-set places slot place, slice_get_within places k there is) in
+    let read : get_or (set places slot place) k 0 ≡ there = get_or-set_other places slot k place 0 differs ∙ get_or_from_slice_get places k there 0 is in
+    slice_get-get_or (set places slot place) k 0 within ∙ ap (λ n. Some n) read
+
+set_here : (places : List ℕ) (slot place : ℕ) → slot < length places → IsSet (set places slot place) slot place
+set_here places slot place less =
+    slice_get-get_or (set places slot place) slot 0 (omega (arith, less, length-set places slot place)) ∙ ap (λ n. Some n) (get_or-set_same places slot place 0 less)
+
+-- the place that a slot has is the one that was set
+pub place_read : (ls places : List ℕ) (slot place other : ℕ) → ls ≡ places → slot < length ls → place ≡ get_or ls slot place → IsSet places slot other → place ≡ other
+place_read ls places slot place other e less item is =
+    let read : get_or ls slot place ≡ other = ap (λ l. get_or l slot place) e ∙ get_or_from_slice_get places slot other place is in
+    item ∙ read
 
 module _ {T : Type 0} where
   -- an unbound slot has another number than any that is bound
@@ -146,6 +162,15 @@ module _ {T : Type 0} where
         let h = there_is ps slot x e in
         absurd (differs x (subst (λ k. slice_get ps k ≡ Some (slot, x)) (sym (told h.0 x h.1)) h.1))
 
+  -- a slot without a place isn't bound
+  pub told_past : (places : List ℕ) (slots capacity slot : ℕ) (ls ps : List (ℕ × T)) → ls ≡ ps → IsTableOf places slots capacity ls → length places ≤ slot → None ≡ value_at ps slot
+  told_past places slots capacity slot ls ps e h past = sym (by_value (value_at ps slot) refl) where
+    by_value : (v : Option T) → value_at ps slot ≡ v → value_at ps slot ≡ None
+    by_value None v = v
+    by_value (Some x) v =
+        let there = there_is ps slot x v in
+        absurd (omega (arith, past, slice_get_within places slot there.0 (h.at there.0 slot x (subst (λ l. slice_get l there.0 ≡ Some (slot, x)) (sym e) there.1))))
+
   some_same : (p q : ℕ × T) → Some p ≡ Some q → p.0 ≡ q.0
   some_same p q e = let slots : Some p.0 ≡ Some q.0 = ap (option_map (λ (r : ℕ × T). r.0)) e in cc
 
@@ -177,33 +202,29 @@ module _ {T : Type 0} where
 
   -- one more binding, of a slot that has none
   pub table_pushed :
-      (old new : Pages) (slots capacity more slot : ℕ) (x : T) (ps qs : List (ℕ × T)) (seen : Trail T)
-      → IsTableOf old slots capacity ps
+      (places : List ℕ) (slots capacity more slot : ℕ) (x : T) (ps qs : List (ℕ × T)) (seen : Trail T)
+      → IsTableOf places slots capacity ps
       → record { slots = slots; pairs = ps } ≡ seen
       → slot < seen.slots
       → value_at seen.pairs slot ≡ None
-      → ArePages new
-      → length new.starts.items ≡ length old.starts.items
-      → IsSet new slot (length ps)
-      → StaysBut slot old new
       → more ≡ capacity
       → qs ≡ ps ++ (slot, x) ∷ []
-      → IsTableOf new slots more qs
-  table_pushed old new slots capacity more slot x ps qs seen h view within free parted reach here others grown pushed =
+      → IsTableOf (set places slot (length ps)) slots more qs
+  table_pushed places slots capacity more slot x ps qs seen h view within free grown pushed =
       let less : slot < slots = subst (λ (t : Trail T). slot < t.slots) (sym view) within in
       let unbound : value_at ps slot ≡ None = ap (λ (t : Trail T). value_at t.pairs slot) view ∙ free in
-      subst (IsTableOf new slots more) (sym pushed)
+      subst (IsTableOf (set places slot (length ps)) slots more) (sym pushed)
       (record {
-        parted = parted;
-        reach = omega (arith, h.reach, reach);
+        reach = omega (arith, h.reach, length-set places slot (length ps));
         at = λ place k y there.
             elim (pushed_there ps (slot, x) (k, y) place there) [
               | inl e ↦
                   let differs : k ≢ slot = λ same. let bad : Some y ≡ None = sym (value_there ps place k y h.distinct e) ∙ ap (value_at ps) same ∙ unbound in cc in
-                  others k place differs (h.at place k y e)
+                  set_stays places slot (length ps) k place differs (h.at place k y e)
               | inr e ↦
                   let same : slot ≡ k = some_same (slot, x) (k, y) e.1 in
-                  subst (λ n. IsSet new k n) (sym e.0) (subst (λ n. IsSet new n (length ps)) same here)
+                  subst (λ n. IsSet (set places slot (length ps)) k n) (sym e.0)
+                  (subst (λ n. IsSet (set places slot (length ps)) n (length ps)) same (set_here places slot (length ps) (omega (arith, less, h.reach))))
             ];
         distinct = distinct_pushed ps slot x unbound h.distinct;
         below = below_pushed slots ps slot x less h.below;
@@ -212,13 +233,13 @@ module _ {T : Type 0} where
       })
 
   pub has_room :
-      (pages : Pages) (slots capacity slot : ℕ) (x : T) (ps : List (ℕ × T)) (seen : Trail T)
-      → IsTableOf pages slots capacity ps
+      (places : List ℕ) (slots capacity slot : ℕ) (x : T) (ps : List (ℕ × T)) (seen : Trail T)
+      → IsTableOf places slots capacity ps
       → record { slots = slots; pairs = ps } ≡ seen
       → slot < seen.slots
       → value_at seen.pairs slot ≡ None
       → length ps < slots
-  has_room pages slots capacity slot x ps seen h view within free =
+  has_room places slots capacity slot x ps seen h view within free =
       let less : slot < slots = subst (λ (t : Trail T). slot < t.slots) (sym view) within in
       let unbound : value_at ps slot ≡ None = ap (λ (t : Trail T). value_at t.pairs slot) view ∙ free in
       omega (arith, as_many slots (ps ++ (slot, x) ∷ []) (distinct_pushed ps slot x unbound h.distinct) (below_pushed slots ps slot x less h.below), length-append ps ((slot, x) ∷ []))
@@ -236,15 +257,14 @@ module _ {T : Type 0} where
 
   -- the first so many bindings are left
   pub table_taken :
-      (pages : Pages) (slots capacity more n : ℕ) (ps qs : List (ℕ × T))
-      → IsTableOf pages slots capacity ps
+      (places : List ℕ) (slots capacity more n : ℕ) (ps qs : List (ℕ × T))
+      → IsTableOf places slots capacity ps
       → more ≡ capacity
       → qs ≡ take n ps
-      → IsTableOf pages slots more qs
-  table_taken pages slots capacity more n ps qs h same taken =
-      subst (IsTableOf pages slots more) (sym taken)
+      → IsTableOf places slots more qs
+  table_taken places slots capacity more n ps qs h same taken =
+      subst (IsTableOf places slots more) (sym taken)
       (record {
-        parted = h.parted;
         reach = h.reach;
         at = λ place slot x there. h.at place slot x (taken_there n ps (slot, x) place there);
         distinct = distinct_front (take n ps) (drop n ps) (subst HasDistinctSlots (sym (take-append-drop n ps)) h.distinct);

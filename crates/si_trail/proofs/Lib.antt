@@ -1,2 +1,1 @@
 pub mod BoundLaws
-mod PageLaws

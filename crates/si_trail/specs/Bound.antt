@@ -1,16 +1,17 @@
 -- What ties the places by slot to the bindings.
-use Rattle.std.specs.Prelude.{◌≡◌, ℕ, ◌*◌, ◌^◌, ◌<◌, ◌≤◌, List, length, Some, slice_get}
-use Rattle.si_trail.specs.declared.pages.Pages.{Pages}
-use Rattle.si_trail.specs.Pages.{IsSet, ArePages}
+use Rattle.std.specs.Prelude.{◌≡◌, ℕ, ◌^◌, ◌<◌, ◌≤◌, List, length, Some, slice_get}
 use Rattle.si_trail.specs.Trails.{HasDistinctSlots, HasSlotsBelow}
+
+-- the slot has this place
+abbrev pub IsSet : List ℕ → ℕ → ℕ → Type 0
+IsSet places slot place = slice_get places slot ≡ Some place
 
 module _ {T : Type 0} where
   -- each slot that is bound has the place of its binding
-  pub record IsTableOf (pages : Pages) (slots capacity : ℕ) (bound : List (ℕ × T)) : Type 0 where
-    pub parted : ArePages pages
-    pub reach : slots ≤ 64 * length pages.starts.items
+  pub record IsTableOf (places : List ℕ) (slots capacity : ℕ) (bound : List (ℕ × T)) : Type 0 where
+    pub reach : slots ≤ length places
     pub at : (place slot : ℕ) (value : T) → slice_get bound place ≡ Some (slot, value)
-        → IsSet pages slot place
+        → IsSet places slot place
     pub distinct : HasDistinctSlots bound
     pub below : HasSlotsBelow slots bound
     pub room : slots ≤ capacity

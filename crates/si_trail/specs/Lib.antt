@@ -1,3 +1,2 @@
 pub mod Bound
-pub mod Pages
 pub mod Trails

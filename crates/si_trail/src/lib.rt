@@ -8,19 +8,23 @@
 ghost use Rattle.std.specs.Prelude.{◌≡◌, ◌<◌, ◌≤◌, [], ◌∷◌, ◌++◌, IfOk, None, length, take, drop, option_copied};
 ghost use Rattle.si_trail.specs.Trails.{value_at, AreUnbound, IsSlotOf, HasDistinctSlots, HasSlotsBelow};
 
-use pages::Pages;
 use std::alloc::{AllocError, Global};
 use std::marker::Model;
 
-mod pages;
+mod memory;
+
+pub use memory::SlotMemory;
+
+// No more slots than this: then a word of 32 bits counts the bindings.
+const MOST_SLOTS: usize = u32::MAX as usize;
 
 /// Bindings of slots to values, in the order in which they were made.
 #[derive(Drop)]
 pub struct Trail<T> {
     slots: usize,
-    // Where the binding of each slot stands. What is left of bindings that were undone is told by
-    // looking there.
-    pages: Pages,
+    // Where the binding of each slot stands. What is left of bindings that were undone, and of
+    // trails before this one, is told by looking there (Briggs and Torczon 1993).
+    places: Vec<u32>,
     // The bindings, in order.
     bound: Vec<(usize, T)>,
 }
@@ -36,24 +40,48 @@ impl<T> Model for Trail<T> {
 
     ghost view = { λ t. record { slots = t.slots; pairs = t.bound.items } };
 
-    ghost invariant = { λ t. IsTableOf t.pages t.slots (vec_capacity t.bound) t.bound.items };
+    ghost invariant = { λ t. IsTableOf t.places.items t.slots (vec_capacity t.bound) t.bound.items };
 }
 
 impl<T: Copy> Trail<T> {
-    /// A trail with so many slots, none of which is bound. No other call takes memory, and this one
-    /// writes little of what it takes.
+    /// A trail with so many slots, none of which is bound. No other call takes memory.
     ///
     /// # Errors
     ///
-    /// `AllocError` where there is no memory, as there never is for nearly 2^32 slots or more.
+    /// `AllocError` where there is no memory, as there never is for 2^32 slots or more.
     pub fn with_slots(alloc: Global, n: usize) -> Result<Trail<T>, AllocError>
         ensures { IfOk result (λ t. t ≡ record { slots = n; pairs = [] }) }
     {
+        Trail::with_memory(alloc, SlotMemory::new(alloc), n)
+    }
+
+    /// The same in memory that is lent. Nothing in it is cleared, so this costs what it lacks.
+    ///
+    /// # Errors
+    ///
+    /// `AllocError` as above. The memory is given up then.
+    pub fn with_memory(alloc: Global, memory: SlotMemory, n: usize) -> Result<Trail<T>, AllocError>
+        ensures { IfOk result (λ t. t ≡ record { slots = n; pairs = [] }) }
+    {
+        if n > MOST_SLOTS {
+            return Err(AllocError);
+        }
+        let mut places = memory.places;
+        if places.len() < n {
+            places.resize(n, 0)?;
+        }
         Ok(Trail {
             slots: n,
-            pages: Pages::with_slots(alloc, n)?,
+            places,
             bound: Vec::with_capacity(alloc, n)?,
         })
+    }
+
+    /// Its memory, to be lent to another trail.
+    pub fn into_memory(self) -> SlotMemory {
+        SlotMemory {
+            places: self.places,
+        }
     }
 
     /// The number of slots.
@@ -86,7 +114,10 @@ impl<T: Copy> Trail<T> {
     pub fn get(&self, slot: usize) -> Option<&T>
         ensures { option_copied result ≡ value_at self.now.pairs slot }
     {
-        match self.bound.get(self.pages.get(slot)) {
+        let Some(place) = self.places.get(slot) else {
+            return None;
+        };
+        match self.bound.get(*place as usize) {
             Some(binding) => {
                 if binding.0 == slot {
                     Some(&binding.1)
@@ -106,7 +137,7 @@ impl<T: Copy> Trail<T> {
         ensures pairs { self.new.pairs ≡ self.old.pairs ++ (slot, value) ∷ [] }
         ensures slots { self.new.slots ≡ self.old.slots }
     {
-        self.pages.set(slot, self.bound.len() as u32);
+        self.places[slot] = self.bound.len() as u32;
         self.bound.push_reserved((slot, value));
     }
 

@@ -7,7 +7,7 @@ ghost use Rattle.si_index.specs.Engines.{AnswersStanding};
 
 use crate::acts::{Trial, assert_trial, toggle};
 use si_defs::Relation;
-use si_index::{Engine, Found, Index};
+use si_index::{Engine, Found, Index, SearchMemory};
 use si_sample::sample;
 use si_scan::Scan;
 use si_term::{Entry, Pattern, entry_at, entry_count, to_pattern};
@@ -48,7 +48,7 @@ fn answered<E: Engine>(
     requires standing { AnswersStanding (E.answers engine.now) index.now relation
         (pattern_of pattern.now) }
 {
-    let found = index.find(engine, relation, pattern)?;
+    let found = index.find(&mut SearchMemory::new(alloc), engine, relation, pattern)?;
     told(alloc, &found)
 }
 

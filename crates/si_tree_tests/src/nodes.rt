@@ -2,7 +2,7 @@
 // hand.
 use crate::acts::{Trial, assert_trial, toggle};
 use si_defs::Relation;
-use si_index::Index;
+use si_index::{Index, SearchMemory};
 use si_parse::pattern::PatternKind;
 use si_texts::pattern_in;
 use std::alloc::{AllocError, Global};
@@ -103,7 +103,7 @@ fn indicators_are_numbered_anew(rt: HostRuntime) -> Result<(), Fail> {
 /// How many literals unify with the one that a text is.
 fn answers(alloc: Global, index: &Index, text: &[u8]) -> Result<u64, AllocError> {
     let pattern = pattern_in(alloc, text, PatternKind::Lit)?;
-    let explained = index.explain(Relation::Unifiable, &pattern)?;
+    let explained = index.explain(&mut SearchMemory::new(alloc), Relation::Unifiable, &pattern)?;
     Ok(explained.answers)
 }
 

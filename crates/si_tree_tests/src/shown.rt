@@ -5,7 +5,7 @@ ghost use Rattle.si_term.specs.Meaning.{pattern_of};
 
 use crate::acts::{Trial, assert_trial, toggle};
 use si_defs::Relation;
-use si_index::{Found, Index};
+use si_index::{Found, Index, SearchMemory};
 use si_parse::pattern::PatternKind;
 use si_term::Pattern;
 use si_texts::pattern_in;
@@ -39,6 +39,7 @@ fn tell_found(found: &Found, page: &mut Vec<u8>) -> Result<(), AllocError> {
 }
 
 fn tell_hits(
+    alloc: Global,
     index: &Index,
     relation: Relation,
     pattern: &Pattern,
@@ -46,7 +47,12 @@ fn tell_hits(
 ) -> Result<(), AllocError>
     requires { IsSoundPattern (pattern_of pattern.now) }
 {
-    let found = index.find(index.trees(), relation, pattern)?;
+    let found = index.find(
+        &mut SearchMemory::new(alloc),
+        index.trees(),
+        relation,
+        pattern,
+    )?;
     tell_found(&found, page)
 }
 
@@ -57,7 +63,7 @@ fn tell_answers(
     page: &mut Vec<u8>,
 ) -> Result<(), AllocError> {
     let pattern = pattern_in(alloc, text, kind)?;
-    tell_hits(index, relation, &pattern, page)
+    tell_hits(alloc, index, relation, &pattern, page)
 }
 
 const CLAUSES: [&[u8]; 3] = [

@@ -15,16 +15,16 @@ pub new-search-requires-clause-room : goal.new-search-requires-clause-room
 new-search-requires-clause-room c =
     has_room c.args.tree.now c.slots_for-slots.result c.args.query.now c.root-root.ensures.legal (c.slots_for-slots.ensures.query ∙ ap length c.cells-cells.ensures.cells) c.slots_for-slots.ensures.entry c.slots_for-slots.ensures.inds c.requires
 
-pub count_below-requires-clause-solving : goal.count_below-requires-clause-solving
-count_below-requires-clause-solving c =
+pub count_below-counted-requires-clause-solving : goal.count_below-counted-requires-clause-solving
+count_below-counted-requires-clause-solving c =
     let begun = may_begin c.args.tree.now c.root-root.result c.args.relation c.args.query.now c.slots_for-slots.result c.cells-cells.result c.bind.new.self c.root-root.ensures.legal c.root-root.ensures.root c.requires
     (c.slots_for-slots.ensures.query ∙ ap length c.cells-cells.ensures.cells) c.slots_for-slots.ensures.entry c.slots_for-slots.ensures.inds c.slots_for-slots.ensures.freezes c.cells-cells.ensures.cells
     (bound_first c.bind.new.self.pairs c.in_ok-trail.trail.pairs (c.slots_for-slots.result.query + c.slots_for-slots.result.entry, c.cells-cells.result) c.bind.ensures.pairs (ap (λ t. t.pairs) c.in_ok-trail.ensures))
     (c.bind.ensures.slots ∙ ap (λ t. t.slots) c.in_ok-trail.ensures ∙ c.count.ensures.count) in
     subst (λ s. AllowsSolving s c.bind.new.self.pairs c.bind.new.self.slots) (sym c.new-search.ensures.slots) begun.solving
 
-pub count_below-requires-clause-above : goal.count_below-requires-clause-above
-count_below-requires-clause-above c =
+pub count_below-counted-requires-clause-above : goal.count_below-counted-requires-clause-above
+count_below-counted-requires-clause-above c =
     let begun = may_begin c.args.tree.now c.root-root.result c.args.relation c.args.query.now c.slots_for-slots.result c.cells-cells.result c.bind.new.self c.root-root.ensures.legal c.root-root.ensures.root c.requires
     (c.slots_for-slots.ensures.query ∙ ap length c.cells-cells.ensures.cells) c.slots_for-slots.ensures.entry c.slots_for-slots.ensures.inds c.slots_for-slots.ensures.freezes c.cells-cells.ensures.cells
     (bound_first c.bind.new.self.pairs c.in_ok-trail.trail.pairs (c.slots_for-slots.result.query + c.slots_for-slots.result.entry, c.cells-cells.result) c.bind.ensures.pairs (ap (λ t. t.pairs) c.in_ok-trail.ensures))
@@ -34,4 +34,4 @@ count_below-requires-clause-above c =
 
 pub returns : goal.returns
 returns c =
-    IfOk-weaker c.count_below.result _ _ (λ n h. counted_answers c.new-search.result c.args.tree.now c.args.relation c.args.query.now c.root-root.result n c.root-root.ensures.legal (ap (λ b. b.now) c.new-search.ensures.tree) c.new-search.ensures.relation (ap (λ b. b.now) c.new-search.ensures.query) c.root-root.ensures.root h) c.count_below.ensures
+    IfOk-weaker c.count_below-counted.result _ _ (λ n h. counted_answers c.new-search.result c.args.tree.now c.args.relation c.args.query.now c.root-root.result n c.root-root.ensures.legal (ap (λ b. b.now) c.new-search.ensures.tree) c.new-search.ensures.relation (ap (λ b. b.now) c.new-search.ensures.query) c.root-root.ensures.root h) c.count_below-counted.ensures

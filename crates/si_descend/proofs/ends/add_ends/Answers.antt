@@ -1,4 +1,4 @@
-use Rattle.si_fit.proofs.FitTurns.{indicator_whole}
+use Rattle.si_fit.proofs.EndLaws.{indicator_whole}
 use Rattle.si_descend.proofs.EndTurns.{adding_more}
 use Rattle.si_descend.proofs.ends.add_ends.Goals as goal
 

@@ -5,7 +5,8 @@ use Rattle.si_unify.specs.Solving.{AreInRange, AllowsSolving}
 use Rattle.si_unify.proofs.Comparing.{grows_on}
 use Rattle.si_unify.proofs.RoomLaws.{room_on, enough_on}
 use Rattle.si_fit.specs.Fitting.{AreRowsNoLongerThan}
-use Rattle.si_fit.proofs.FitTurns.{indicator_whole, indicator_range, row_range, row_fresh, sides_within, pair_within, fits_more, fits_not, fits_end}
+use Rattle.si_fit.proofs.EndLaws.{indicator_whole}
+use Rattle.si_fit.proofs.FitTurns.{indicator_range, row_range, row_fresh, sides_within, pair_within, fits_more, fits_not, fits_end}
 use Rattle.si_fit.proofs.fitting.fit.Goals as goal
 
 pub fit_pair-requires-clause-terms : goal.fit_pair-requires-clause-terms

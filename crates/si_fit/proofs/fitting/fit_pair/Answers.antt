@@ -16,14 +16,14 @@ pub returns-in-Equal-clause-solved : goal.returns-in-Equal-clause-solved
 returns-in-Equal-clause-solved c =
     met_solved c.args.slots.now c.args.trail.now.pairs c.fill_any.new.trail.pairs c.args.left.now c.args.right.now
     c.fill_any.new.trail.slots
-    (end_met c.args.slots.now c.args.trail.now.pairs c.fill_any.new.trail.pairs c.args.left.now c.end_of-end.result.now c.args.right.now Equal c.end_of-end.ensures.ends c.in-Equal.ensures.met)
+    (end_met c.args.slots.now c.args.trail.now.pairs c.fill_any.new.trail.pairs c.args.left.now c.end_of_indicator-end.result.now c.args.right.now Equal c.end_of_indicator-end.ensures.ends c.in-Equal.ensures.met)
     c.fill_any.ensures.trail.ready c.mark.ensures.distinct
 
 pub fill_any-requires-clause-terms : goal.fill_any-requires-clause-terms
 fill_any-requires-clause-terms c = record {
-  left = (c.end_of-end.ensures.ends.last, c.end_of-end.ensures.ends.last_stands);
+  left = (c.end_of_indicator-end.ensures.ends.last, c.end_of_indicator-end.ensures.ends.last_stands);
   right = c.requires.terms.right;
-  left_range = c.end_of-end.ensures.range;
+  left_range = c.end_of_indicator-end.ensures.range;
   right_range = c.requires.terms.right_range;
   ready = c.requires.terms.ready;
 }
@@ -33,12 +33,12 @@ fill_any-requires-clause-once c = once_back c.args.left.now c.args.right.now c.r
 
 pub fill_any-requires-clause-fresh : goal.fill_any-requires-clause-fresh
 fill_any-requires-clause-fresh c =
-    end_new c.args.slots.now c.args.trail.now.pairs c.args.left.now c.end_of-end.result.now c.args.right.now c.args.trail.now.slots c.requires.solution c.requires.terms.ready c.requires.once c.requires.untold c.end_of-end.ensures.ends
+    end_new c.args.slots.now c.args.trail.now.pairs c.args.left.now c.end_of_indicator-end.result.now c.args.right.now c.args.trail.now.slots c.requires.solution c.requires.terms.ready c.requires.once c.requires.untold c.end_of_indicator-end.ensures.ends
 
 pub returns-in-Clash-clause-solved : goal.returns-in-Clash-clause-solved
 returns-in-Clash-clause-solved c =
     clash_unsolved c.args.slots.now c.args.trail.now.pairs c.fill_any.new.trail.pairs c.args.left.now c.args.right.now
-    (end_met c.args.slots.now c.args.trail.now.pairs c.fill_any.new.trail.pairs c.args.left.now c.end_of-end.result.now c.args.right.now Clash c.end_of-end.ensures.ends c.in-Clash.ensures.met)
+    (end_met c.args.slots.now c.args.trail.now.pairs c.fill_any.new.trail.pairs c.args.left.now c.end_of_indicator-end.result.now c.args.right.now Clash c.end_of_indicator-end.ensures.ends c.in-Clash.ensures.met)
 
 pub returns-in-Unknown-clause-solved : goal.returns-in-Unknown-clause-solved
 returns-in-Unknown-clause-solved c =
@@ -72,7 +72,7 @@ returns-in-Unknown-clause-within c = λ n values left right.
     (subst (λ l. AreHandedIn l c.solve_with.new.trail.pairs c.args.left.now c.args.right.now) (c.undo.ensures.pairs ∙ ap (λ n. take n c.fill_any.new.trail.pairs) c.mark-mark.ensures.number ∙ front_of c.args.trail.now.pairs c.fill_any.new.trail.pairs c.fill_any.ensures.trail.grows) c.solve_with.ensures.handed_in)
 
 pub returns-in-Equal-clause-within : goal.returns-in-Equal-clause-within
-returns-in-Equal-clause-within c = λ n values left right. c.fill_any.ensures.within n values (c.end_of-end.ensures.within n values left) right
+returns-in-Equal-clause-within c = λ n values left right. c.fill_any.ensures.within n values (c.end_of_indicator-end.ensures.within n values left) right
 
 pub returns-in-Clash-clause-within : goal.returns-in-Clash-clause-within
-returns-in-Clash-clause-within c = λ n values left right. c.fill_any.ensures.within n values (c.end_of-end.ensures.within n values left) right
+returns-in-Clash-clause-within c = λ n values left right. c.fill_any.ensures.within n values (c.end_of_indicator-end.ensures.within n values left) right

@@ -175,21 +175,21 @@ pub meet_unbound-returns-then-own-slot-clause-met : goal.meet_unbound-returns-th
 meet_unbound-returns-then-own-slot-clause-met t c =
     slot_met c.args.slots.now c.args.trail.now.pairs c.args.slot c.args.left.now c.args.right.now (subst (λ n. IsVariable c.args.slots.now n c.args.left.now) c.if-own-slot.true (variable_at c.args.slots.now c.in-Some.own c.args.left.now c.requires.terms.left c.requires.terms.left_range (sym c.in-Some.ensures))) (variable_at c.args.slots.now c.args.slot c.args.right.now c.requires.terms.right c.requires.terms.right_range c.requires.variable)
 
-pub meet_unbound-bind-requires-in-Ind-clause-slot : goal.meet_unbound-bind-requires-in-Ind-clause-slot
-meet_unbound-bind-requires-in-Ind-clause-slot t c =
+pub meet_unbound-bind-requires-then-is_newer-clause-slot : goal.meet_unbound-bind-requires-then-is_newer-clause-slot
+meet_unbound-bind-requires-then-is_newer-clause-slot t c =
     (variable_at c.args.slots.now c.in-Some.own c.args.left.now c.requires.terms.left c.requires.terms.left_range (sym c.in-Some.ensures)).slot_open
 
-pub meet_unbound-bind-requires-in-Ind-clause-unbound : goal.meet_unbound-bind-requires-in-Ind-clause-unbound
-meet_unbound-bind-requires-in-Ind-clause-unbound t c =
+pub meet_unbound-bind-requires-then-is_newer-clause-unbound : goal.meet_unbound-bind-requires-then-is_newer-clause-unbound
+meet_unbound-bind-requires-then-is_newer-clause-unbound t c =
     sym c.in_default-value_at.ensures
 
-pub meet_unbound-bind-requires-in-Ind-clause-first : goal.meet_unbound-bind-requires-in-Ind-clause-first
-meet_unbound-bind-requires-in-Ind-clause-first t c =
+pub meet_unbound-bind-requires-then-is_newer-clause-first : goal.meet_unbound-bind-requires-then-is_newer-clause-first
+meet_unbound-bind-requires-then-is_newer-clause-first t c =
     other_free c.args.slots.now c.args.trail.now.pairs c.in-Some.own c.args.slot _ c.requires.variable (λ e. c.if-own-slot.false (sym e)) c.requires.unbound
 
-pub meet_unbound-returns-in-Ind-clause-met : goal.meet_unbound-returns-in-Ind-clause-met
-meet_unbound-returns-in-Ind-clause-met t c =
-    left_met c.args.slots.now c.args.trail.now.pairs c.bind-in-Ind.new.trail.pairs c.in-Some.own c.args.left.now c.args.right.now c.bind-in-Ind.result (variable_at c.args.slots.now c.in-Some.own c.args.left.now c.requires.terms.left c.requires.terms.left_range (sym c.in-Some.ensures)) c.bind-in-Ind.ensures.met
+pub meet_unbound-returns-then-is_newer-clause-met : goal.meet_unbound-returns-then-is_newer-clause-met
+meet_unbound-returns-then-is_newer-clause-met t c =
+    left_met c.args.slots.now c.args.trail.now.pairs c.bind-then-is_newer.new.trail.pairs c.in-Some.own c.args.left.now c.args.right.now c.bind-then-is_newer.result (variable_at c.args.slots.now c.in-Some.own c.args.left.now c.requires.terms.left c.requires.terms.left_range (sym c.in-Some.ensures)) c.bind-then-is_newer.ensures.met
 
 pub meet_unbound-returns-clause-met : goal.meet_unbound-returns-clause-met
 meet_unbound-returns-clause-met t c =
@@ -222,8 +222,8 @@ pub meet_unbound-returns-in-Some-value_at-clause-within : goal.meet_unbound-retu
 meet_unbound-returns-in-Some-value_at-clause-within t c =
     left_stays c.args.trail.now.pairs c.follow.new.trail.pairs c.in-Some.own c.in-Some-value_at.value (sym c.in-Some-value_at.ensures) c.args.left.now c.args.right.now c.follow.ensures.within
 
-pub meet_unbound-returns-in-Ind-clause-within : goal.meet_unbound-returns-in-Ind-clause-within
-meet_unbound-returns-in-Ind-clause-within t c = λ n values left right. c.bind-in-Ind.ensures.within n values right
+pub meet_unbound-returns-then-is_newer-clause-within : goal.meet_unbound-returns-then-is_newer-clause-within
+meet_unbound-returns-then-is_newer-clause-within t c = λ n values left right. c.bind-then-is_newer.ensures.within n values right
 
 pub meet_unbound-returns-clause-within : goal.meet_unbound-returns-clause-within
 meet_unbound-returns-clause-within t c = λ n values left right. c.bind-2.ensures.within n values left

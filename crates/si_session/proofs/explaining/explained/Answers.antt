@@ -27,4 +27,4 @@ returns c =
     let pattern = tokens_of question.pattern.now in
     let read : ReadsFlat numbers pattern question.kind c.in-Some-2.query = subst (λ r. IfSome r (ReadsFlat numbers pattern question.kind)) c.in-Some-2.is c.in_ok-query.ensures in
     explained_line c.args.index.now numbers c.signature.ensures.numbers pattern question.kind c.asks_literals-literal.result c.asks_literals-literal.ensures c.in-Some-2.query read
-    c.args.line.now c.in_ok-lexing.lexing c.in_ok-lexing.ensures.read question.relation c.in_ok-explain_flat.field-0 c.in-End.is (sym (ap tokens_of c.as_slice.ensures.value) ∙ c.in-Some.ensures) c.in_ok-explain_flat.ensures
+    c.args.line.now c.in_ok-lexing.lexing c.in_ok-lexing.ensures.read question.relation c.in_ok-found.found c.in-End.is (sym (ap tokens_of c.as_slice.ensures.value) ∙ c.in-Some.ensures) c.in_ok-found.ensures

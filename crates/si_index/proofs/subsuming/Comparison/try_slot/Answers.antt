@@ -17,13 +17,13 @@ pub answer-requires-clause-literals : goal.answer-requires-clause-literals
 answer-requires-clause-literals c =
     let there = c.in-Some.ensures.some in
     let clause = c.in-Some.clause.now in
-    (all_at (IsKnownClause (numbering c.args.flat.now.signature.now)) (clauses_of (placed_items c.args.places.now)) (clause_of clause) c.requires.clauses (clause_among c.args.places.now c.args.slot there.0 clause there.1)).sound.sound
+    (all_at (IsKnownClause (numbering c.args.flat.now.signature.now)) (clauses_of (placed_items c.args.places.now)) (clause_of clause) c.requires.known.clauses (clause_among c.args.places.now c.args.slot there.0 clause there.1)).sound.sound
 
 pub answer-requires-clause-known : goal.answer-requires-clause-known
 answer-requires-clause-known c =
     let there = c.in-Some.ensures.some in
     let clause = c.in-Some.clause.now in
-    (all_at (IsKnownClause (numbering c.args.flat.now.signature.now)) (clauses_of (placed_items c.args.places.now)) (clause_of clause) c.requires.clauses (clause_among c.args.places.now c.args.slot there.0 clause there.1)).numbered
+    (all_at (IsKnownClause (numbering c.args.flat.now.signature.now)) (clauses_of (placed_items c.args.places.now)) (clause_of clause) c.requires.known.clauses (clause_among c.args.places.now c.args.slot there.0 clause there.1)).numbered
 
 pub returns-in_default-2 : goal.returns-in_default-2
 returns-in_default-2 c =
@@ -35,7 +35,7 @@ returns-in_default-2 c =
 
 pub overflow_cast-position : goal.overflow_cast-position
 overflow_cast-position c =
-    record { fits = omega (arith, c.requires.few, slice_get_within c.args.places.now c.at-position.result.0 _ c.at-position.ensures.1) }
+    record { fits = omega (arith, c.requires.known.few, slice_get_within c.args.places.now c.at-position.result.0 _ c.at-position.ensures.1) }
 
 pub returns : goal.returns
 returns c =
@@ -44,6 +44,6 @@ returns c =
     let there = c.in-Some.ensures.some in
     let clause = c.in-Some.clause.now in
     let at = place_among slots (c.args.slot, (there.0, clause)) there.1 in
-    let position : c.at-position.result.0 ≡ at.0 = same_position slots c.at-position.result.0 at.0 _ (c.args.slot, (there.0, clause)) c.requires.rise c.at-position.ensures.1 at.1 refl in
+    let position : c.at-position.result.0 ≡ at.0 = same_position slots c.at-position.result.0 at.0 _ (c.args.slot, (there.0, clause)) c.requires.known.rise c.at-position.ensures.1 at.1 refl in
     let least = subst (AnswersLeast (maps (map literal_of clause.literals))) c.in-Some-2.is c.in_ok-map.ensures in
     on_ok_weaker c.push.result (λ pushed. inl (at.0, there.0, clause, at.1, inl (_, position, least, pushed))) c.push.ensures.ok

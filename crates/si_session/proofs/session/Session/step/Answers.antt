@@ -1,4 +1,4 @@
-use Rattle.std.proofs.Common.{◌≤◌, [], ◌∷◌, inl, inr, length, map, refl, ap, ◌∙◌, subst, arith}
+use Rattle.std.proofs.Common.{◌≡◌, ◌≤◌, [], ◌∷◌, inl, inr, length, map, refl, sym, ap, ◌∙◌, subst, arith}
 use Rattle.si_steps.specs.Commands.{add, remove, query, subsumers, subsumed, stats, sample}
 use Rattle.si_term.specs.Meaning.{name_of, literal_of, clause_of, pattern_of}
 use Rattle.si_steps.specs.Runs.{a_line}
@@ -6,11 +6,12 @@ use Rattle.si_steps.specs.Replies.{language_line, syntax_line}
 use Rattle.si_steps.specs.Steps.{silent, foreign, wrong}
 use Rattle.si_io.proofs.Sends.{SendsAll-nil}
 use Rattle.si_session.specs.declared.stepped.Stepped.TheVariants.{Silent}
-use Rattle.si_session.specs.Session.{Steps, around, view_of}
+use Rattle.si_session.specs.Session.{View, Steps, around, view_of}
 use Rattle.si_session.specs.Commands.{ReadsCommand}
 use Rattle.si_session.specs.declared.command.Command.TheVariants as command
 use Rattle.si_session.proofs.Acting.{faults_stand, stepped, not_silent, keeps_state, counts, trees_stepped, explain_stepped, blanks_no_command, line_stepped, long_stepped, unread_stepped, holds_trees, load_stepped, load_not_silent, load_keeps}
 use Rattle.si_session.proofs.session.Session.step.Goals as goal
+use Rattle.si_session.proofs.session.Session.step.Goals.{in-Lit+in-Var+in-Long-1, in-Lit+in-Var+in-Short-1, in-Lit+in-App-1, in-Term+in-Var+in-Long-1, in-Term+in-Var+in-Short-1, in-Term+in-App-1, in-Lit+in-Var+in-Long-2, in-Lit+in-Var+in-Short-2, in-Lit+in-App-2, in-Term+in-Var+in-Long-2, in-Term+in-Var+in-Short-2, in-Term+in-App-2}
 
 pub returns-in-Ok-Add-clause-step : goal.returns-in-Ok-Add-clause-step
 returns-in-Ok-Add-clause-step g c =
@@ -31,8 +32,18 @@ returns-in-Ok-Query-clause-step g c =
     let library = g.L.Library.shown c.args.library.now in
     let read : ReadsCommand c.args.line.now (command.Query c.in-Ok-Query.relation c.in-Ok-Query.pattern) = subst (ReadsCommand c.args.line.now) c.in-Ok-Query.field-0-is c.in-Ok-Query.ensures.read in
     let short : length c.args.line.now ≤ limits.line = omega (arith, c.if-line-self.false) in
-    subst (λ s. Steps s s (a_line c.args.line.now) c.answer.result (around a library) (around b library)) c.self.view_is
-    (stepped limits library c.self.inside.index c.self.inside.index c.args.line.now (query c.in-Ok-Query.relation (pattern_of c.in-Ok-Query.pattern)) c.answer.result a b (holds_trees limits c.self.inside.index c.trees.ensures.keyed c.trees.ensures.exactly c.trees.ensures.hold) refl short read.0 c.answer.ensures.acts (λ reply. tt) (inr refl))
+    let done : Steps c.args.self.now (view_of limits c.self.inside.index) (a_line c.args.line.now) c.answer.result (around a library) (around b library) =
+    subst (λ s. Steps s (view_of limits c.self.inside.index) (a_line c.args.line.now) c.answer.result (around a library) (around b library)) c.self.view_is
+    (stepped limits library c.self.inside.index c.self.inside.index c.args.line.now (query c.in-Ok-Query.relation (pattern_of c.in-Ok-Query.pattern)) c.answer.result a b (holds_trees limits c.self.inside.index c.trees.ensures.keyed c.trees.ensures.exactly c.trees.ensures.hold) refl short read.0 c.answer.ensures.acts (λ reply. tt) (inr refl)) in
+    let told : (new : View) → new ≡ view_of limits c.self.inside.index → Steps c.args.self.now new (a_line c.args.line.now) c.answer.result (around a library) (around b library) = λ new is. subst (λ n. Steps c.args.self.now n (a_line c.args.line.now) c.answer.result (around a library) (around b library)) (sym is) done in
+    elim c.match-pattern.branch [
+      | in-Lit+in-Var+in-Long-1 w ↦ told _ w.self-is
+      | in-Lit+in-Var+in-Short-1 w ↦ told _ w.self-is
+      | in-Lit+in-App-1 w ↦ told _ w.self-is
+      | in-Term+in-Var+in-Long-1 w ↦ told _ w.self-is
+      | in-Term+in-Var+in-Short-1 w ↦ told _ w.self-is
+      | in-Term+in-App-1 w ↦ told _ w.self-is
+    ]
 
 pub returns-in-Ok-Remove-clause-step : goal.returns-in-Ok-Remove-clause-step
 returns-in-Ok-Remove-clause-step g c =
@@ -98,7 +109,7 @@ returns-in-Ok-Stats-clause-step g c =
     let library = g.L.Library.shown c.args.library.now in
     let read : ReadsCommand c.args.line.now command.Stats = subst (ReadsCommand c.args.line.now) c.in-Ok-Stats.field-0-is c.in-Ok-Stats.ensures.read in
     let short : length c.args.line.now ≤ limits.line = omega (arith, c.if-line-self.false) in
-    subst (λ s. Steps s s (a_line c.args.line.now) c.tell-in-Ok-Stats.result (around a library) (around b library)) c.self.view_is
+    subst (λ s. Steps s (view_of limits c.self.inside.index) (a_line c.args.line.now) c.tell-in-Ok-Stats.result (around a library) (around b library)) c.self.view_is
     (stepped limits library c.self.inside.index c.self.inside.index c.args.line.now stats c.tell-in-Ok-Stats.result a b (holds_trees limits c.self.inside.index c.trees.ensures.keyed c.trees.ensures.exactly c.trees.ensures.hold) refl short read
     (counts c.self.inside.index c.stats.result c.tell-in-Ok-Stats.result a b c.stats.ensures.clauses c.stats.ensures.entries c.stats.ensures.symbols
     c.tell-in-Ok-Stats.ensures.written) (λ reply. tt) (inr refl))
@@ -138,7 +149,7 @@ returns-in-Ok-Subsumers-clause-step g c =
     let library = g.L.Library.shown c.args.library.now in
     let read : ReadsCommand c.args.line.now (command.Subsumers c.in-Ok-Subsumers.formula) = subst (ReadsCommand c.args.line.now) c.in-Ok-Subsumers.field-0-is c.in-Ok-Subsumers.ensures.read in
     let short : length c.args.line.now ≤ limits.line = omega (arith, c.if-line-self.false) in
-    subst (λ s. Steps s s (a_line c.args.line.now) c.subsumers.result (around a library) (around b library)) c.self.view_is
+    subst (λ s. Steps s (view_of limits c.self.inside.index) (a_line c.args.line.now) c.subsumers.result (around a library) (around b library)) c.self.view_is
     (stepped limits library c.self.inside.index c.self.inside.index c.args.line.now (subsumers (map literal_of c.in-Ok-Subsumers.formula)) c.subsumers.result a b (holds_trees limits c.self.inside.index c.trees.ensures.keyed c.trees.ensures.exactly c.trees.ensures.hold) refl short read.0 c.subsumers.ensures.acts (λ reply. tt) (inr refl))
 
 pub returns-in-Ok-Subsumers-clause-silent : goal.returns-in-Ok-Subsumers-clause-silent
@@ -159,7 +170,7 @@ returns-in-Ok-Subsumed-clause-step g c =
     let library = g.L.Library.shown c.args.library.now in
     let read : ReadsCommand c.args.line.now (command.Subsumed c.in-Ok-Subsumed.formula) = subst (ReadsCommand c.args.line.now) c.in-Ok-Subsumed.field-0-is c.in-Ok-Subsumed.ensures.read in
     let short : length c.args.line.now ≤ limits.line = omega (arith, c.if-line-self.false) in
-    subst (λ s. Steps s s (a_line c.args.line.now) c.subsumed.result (around a library) (around b library)) c.self.view_is
+    subst (λ s. Steps s (view_of limits c.self.inside.index) (a_line c.args.line.now) c.subsumed.result (around a library) (around b library)) c.self.view_is
     (stepped limits library c.self.inside.index c.self.inside.index c.args.line.now (subsumed (map literal_of c.in-Ok-Subsumed.formula)) c.subsumed.result a b (holds_trees limits c.self.inside.index c.trees.ensures.keyed c.trees.ensures.exactly c.trees.ensures.hold) refl short read.0 c.subsumed.ensures.acts (λ reply. tt) (inr refl))
 
 pub returns-in-Ok-Subsumed-clause-silent : goal.returns-in-Ok-Subsumed-clause-silent
@@ -217,7 +228,7 @@ returns-in-Ok-Tree-clause-step g c =
     let library = g.L.Library.shown c.args.library.now in
     let read : ReadsCommand c.args.line.now command.Tree = subst (ReadsCommand c.args.line.now) c.in-Ok-Tree.field-0-is c.in-Ok-Tree.ensures.read in
     let short : length c.args.line.now ≤ limits.line = omega (arith, c.if-line-self.false) in
-    subst (λ s. Steps s s (a_line c.args.line.now) c.tell_trees.result (around a library) (around b library)) c.self.view_is
+    subst (λ s. Steps s (view_of limits c.self.inside.index) (a_line c.args.line.now) c.tell_trees.result (around a library) (around b library)) c.self.view_is
     (trees_stepped limits library c.self.inside.index c.args.line.now c.counts.result c.tell_trees.result a b (holds_trees limits c.self.inside.index c.trees.ensures.keyed c.trees.ensures.exactly c.trees.ensures.hold) short read c.counts.ensures.literals c.counts.ensures.terms c.tell_trees.ensures.written)
 
 pub returns-in-Ok-Explain-clause-step : goal.returns-in-Ok-Explain-clause-step
@@ -228,8 +239,18 @@ returns-in-Ok-Explain-clause-step g c =
     let library = g.L.Library.shown c.args.library.now in
     let read : ReadsCommand c.args.line.now (command.Explain c.in-Ok-Explain.relation c.in-Ok-Explain.pattern) = subst (ReadsCommand c.args.line.now) c.in-Ok-Explain.field-0-is c.in-Ok-Explain.ensures.read in
     let short : length c.args.line.now ≤ limits.line = omega (arith, c.if-line-self.false) in
-    subst (λ s. Steps s s (a_line c.args.line.now) c.explain.result (around a library) (around b library)) c.self.view_is
-    (explain_stepped limits library c.self.inside.index c.args.line.now c.in-Ok-Explain.relation (pattern_of c.in-Ok-Explain.pattern) c.explain.result a b (holds_trees limits c.self.inside.index c.trees.ensures.keyed c.trees.ensures.exactly c.trees.ensures.hold) short read.0 c.explain.ensures.tells)
+    let done : Steps c.args.self.now (view_of limits c.self.inside.index) (a_line c.args.line.now) c.explain.result (around a library) (around b library) =
+    subst (λ s. Steps s (view_of limits c.self.inside.index) (a_line c.args.line.now) c.explain.result (around a library) (around b library)) c.self.view_is
+    (explain_stepped limits library c.self.inside.index c.args.line.now c.in-Ok-Explain.relation (pattern_of c.in-Ok-Explain.pattern) c.explain.result a b (holds_trees limits c.self.inside.index c.trees.ensures.keyed c.trees.ensures.exactly c.trees.ensures.hold) short read.0 c.explain.ensures.tells) in
+    let told : (new : View) → new ≡ view_of limits c.self.inside.index → Steps c.args.self.now new (a_line c.args.line.now) c.explain.result (around a library) (around b library) = λ new is. subst (λ n. Steps c.args.self.now n (a_line c.args.line.now) c.explain.result (around a library) (around b library)) (sym is) done in
+    elim c.match-pattern-6.branch [
+      | in-Lit+in-Var+in-Long-2 w ↦ told _ w.self-is
+      | in-Lit+in-Var+in-Short-2 w ↦ told _ w.self-is
+      | in-Lit+in-App-2 w ↦ told _ w.self-is
+      | in-Term+in-Var+in-Long-2 w ↦ told _ w.self-is
+      | in-Term+in-Var+in-Short-2 w ↦ told _ w.self-is
+      | in-Term+in-App-2 w ↦ told _ w.self-is
+    ]
 
 pub returns-in-Some-clause-step : goal.returns-in-Some-clause-step
 returns-in-Some-clause-step g c =
@@ -239,7 +260,7 @@ returns-in-Some-clause-step g c =
     let library = g.L.Library.shown c.args.library.now in
     let told = c.in-Some.ensures in
     let short : length c.args.line.now ≤ limits.line = omega (arith, c.if-line-self.false) in
-    subst (λ s. Steps s s (a_line c.args.line.now) c.tell-in-Some.result (around a library) (around b library)) c.self.view_is
+    subst (λ s. Steps s (view_of limits c.self.inside.index) (a_line c.args.line.now) c.tell-in-Some.result (around a library) (around b library)) c.self.view_is
     (explain_stepped limits library c.self.inside.index c.args.line.now told.0 told.1 c.tell-in-Some.result a b (holds_trees limits c.self.inside.index c.trees.ensures.keyed c.trees.ensures.exactly c.trees.ensures.hold) short told.2
     (inl (c.in-Some.explained, told.3, c.tell-in-Some.ensures.written)))
 
@@ -254,7 +275,7 @@ returns-in-Ok-Blank-clause-step g c =
     let b = a in
     let read : ReadsCommand line command.Blank = subst (ReadsCommand line) c.in-Ok-Blank.field-0-is c.in-Ok-Blank.ensures.read in
     let short : length line ≤ limits.line = omega (arith, c.if-line-self.false) in
-    subst (λ s. Steps s s (a_line line) Silent (around a library) (around b library)) c.self.view_is
+    subst (λ s. Steps s (view_of limits c.self.inside.index) (a_line line) Silent (around a library) (around b library)) c.self.view_is
     (line_stepped limits library index line [] Silent a b (holds_trees limits c.self.inside.index c.trees.ensures.keyed c.trees.ensures.exactly c.trees.ensures.hold) (blanks_no_command line read) (silent (short, read) refl refl refl) (SendsAll-nil a, refl))
 
 pub returns-in-Ok-Blank-clause-faults : goal.returns-in-Ok-Blank-clause-faults
@@ -270,7 +291,7 @@ returns-in-Ok-Foreign-clause-step g c =
     let b = g.K.Sink.shown c.tell-in-Ok-Foreign.new.sink in
     let read : ReadsCommand line command.Foreign = subst (ReadsCommand line) c.in-Ok-Foreign.field-0-is c.in-Ok-Foreign.ensures.read in
     let short : length line ≤ limits.line = omega (arith, c.if-line-self.false) in
-    subst (λ s. Steps s s (a_line line) c.tell-in-Ok-Foreign.result (around a library) (around b library)) c.self.view_is
+    subst (λ s. Steps s (view_of limits c.self.inside.index) (a_line line) c.tell-in-Ok-Foreign.result (around a library) (around b library)) c.self.view_is
     (line_stepped limits library index line (language_line ∷ []) c.tell-in-Ok-Foreign.result a b (holds_trees limits c.self.inside.index c.trees.ensures.keyed c.trees.ensures.exactly c.trees.ensures.hold) read.2 (foreign short read.1 read.2 refl refl refl) c.tell-in-Ok-Foreign.ensures.written)
 
 pub returns-in-Ok-Wrong-clause-step : goal.returns-in-Ok-Wrong-clause-step
@@ -283,7 +304,7 @@ returns-in-Ok-Wrong-clause-step g c =
     let b = g.K.Sink.shown c.tell-in-Ok-Wrong.new.sink in
     let read : ReadsCommand line command.Wrong = subst (ReadsCommand line) c.in-Ok-Wrong.field-0-is c.in-Ok-Wrong.ensures.read in
     let short : length line ≤ limits.line = omega (arith, c.if-line-self.false) in
-    subst (λ s. Steps s s (a_line line) c.tell-in-Ok-Wrong.result (around a library) (around b library)) c.self.view_is
+    subst (λ s. Steps s (view_of limits c.self.inside.index) (a_line line) c.tell-in-Ok-Wrong.result (around a library) (around b library)) c.self.view_is
     (line_stepped limits library index line (syntax_line ∷ []) c.tell-in-Ok-Wrong.result a b (holds_trees limits c.self.inside.index c.trees.ensures.keyed c.trees.ensures.exactly c.trees.ensures.hold) read.none (wrong short (λ h. read.some h.1) read.own read.none refl refl refl) c.tell-in-Ok-Wrong.ensures.written)
 
 pub returns-in-Err-clause-step : goal.returns-in-Err-clause-step
@@ -293,7 +314,7 @@ returns-in-Err-clause-step g c =
     let a = g.K.Sink.shown c.args.sink.now in
     let b = g.K.Sink.shown c.tell-in-Err.new.sink in
     let short : length c.args.line.now ≤ limits.line = omega (arith, c.if-line-self.false) in
-    subst (λ s. Steps s s (a_line c.args.line.now) c.tell-in-Err.result (around a library) (around b library)) c.self.view_is
+    subst (λ s. Steps s (view_of limits c.self.inside.index) (a_line c.args.line.now) c.tell-in-Err.result (around a library) (around b library)) c.self.view_is
     (unread_stepped limits library c.self.inside.index c.args.line.now c.tell-in-Err.result a b (holds_trees limits c.self.inside.index c.trees.ensures.keyed c.trees.ensures.exactly c.trees.ensures.hold) short c.in-Err.ensures.refused c.tell-in-Err.ensures.written)
 
 pub returns-then-line-self-clause-step : goal.returns-then-line-self-clause-step

@@ -95,13 +95,8 @@ impl Session {
         if line.len() > self.limits.line {
             return tell(sink, ReplyLine::Long);
         }
-        if let Some(explained) = explained_at_once(
-            self.alloc,
-            &self.index,
-            &mut self.memory,
-            line,
-        ) {
-            return tell(sink, ReplyLine::Explained(explained));
+        if let Some(counts) = explained_at_once(self.alloc, &self.index, &mut self.memory, line) {
+            return tell(sink, ReplyLine::Explained(counts));
         }
         match read_command(self.alloc, line) {
             Ok(Command::Blank) => Stepped::Silent,

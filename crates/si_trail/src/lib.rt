@@ -40,11 +40,12 @@ impl<T> Model for Trail<T> {
 
     ghost view = { λ t. record { slots = t.slots; pairs = t.bound.items } };
 
-    ghost invariant = { λ t. IsTableOf t.places.items t.slots (vec_capacity t.bound) t.bound.items };
+    ghost invariant = { λ t.
+        IsTableOf t.places.items t.slots (vec_capacity t.bound) t.bound.items };
 }
 
 impl<T: Copy> Trail<T> {
-    /// A trail with so many slots, none of which is bound. No other call takes memory.
+    /// A trail with so many slots, none of which is bound.
     ///
     /// # Errors
     ///

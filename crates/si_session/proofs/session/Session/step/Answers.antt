@@ -262,7 +262,7 @@ returns-in-Some-clause-step g c =
     let short : length c.args.line.now ≤ limits.line = omega (arith, c.if-line-self.false) in
     subst (λ s. Steps s (view_of limits c.self.inside.index) (a_line c.args.line.now) c.tell-in-Some.result (around a library) (around b library)) c.self.view_is
     (explain_stepped limits library c.self.inside.index c.args.line.now told.0 told.1 c.tell-in-Some.result a b (holds_trees limits c.self.inside.index c.trees.ensures.keyed c.trees.ensures.exactly c.trees.ensures.hold) short told.2
-    (inl (c.in-Some.explained, told.3, c.tell-in-Some.ensures.written)))
+    (inl (c.in-Some.counts, told.3, c.tell-in-Some.ensures.written)))
 
 -- ---- lines that are no command
 pub returns-in-Ok-Blank-clause-step : goal.returns-in-Ok-Blank-clause-step

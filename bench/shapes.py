@@ -74,8 +74,10 @@ ADDED = {
     "arguments: one variable": Shape(40_000, lambda n: lines(add(f"p({listed('X', n)})"))),
     "arguments: different constants": Shape(20_000, lambda n: lines(add(f"p({listed('a#', n)})"))),
     "arguments: terms with variables": Shape(20_000, lambda n: lines(add(f"p({listed('f(X#)', n)})"))),
-    "nested terms": Shape(250, lambda n: lines(*each(add(f"p({nested('g(', 'X', ')', n)})", "c#"), 50))),
-    "nested terms, to the right": Shape(250, lambda n: lines(*each(add(f"p({nested('f(X,', 'X', ')', n)})", "c#"), 50))),
+    # Each of n subterms is an entry, whose term is walked through.
+    "nested terms": Shape(250, lambda n: lines(*each(add(f"p({nested('g(', 'X', ')', n)})", "c#"), 50)), most=4.6),
+    "nested terms, to the right": Shape(
+        250, lambda n: lines(*each(add(f"p({nested('f(X,', 'X', ')', n)})", "c#"), 50)), most=4.6),
     "nested brackets of the formula": Shape(250, lambda n: lines(*each(add(nested("(", "p", ")", n), "c#"), 50))),
     "nested brackets of annotations": Shape(250, lambda n: lines(*each(add("p," + nested("[", "x", "]", n), "c#"), 50))),
     "brackets of annotations side by side": Shape(50_000, lambda n: lines(add("p," + "[]()" * n))),

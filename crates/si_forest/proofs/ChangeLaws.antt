@@ -1,10 +1,7 @@
 -- What stays where postings of one key come or go.
-use Rattle.std.proofs.Common.{◌≡◌, ◌≢◌, inl, inr, ℕ, ◌<◌, ◌≤◌, Bool, List, [], ◌∷◌, ◌++◌, length, Some, slice_get, set, refl, sym, ◌∙◌, ap, subst, arith, length-set, length-append}
-use Rattle.std.specs.Prelude.{Vec}
+use Rattle.std.proofs.Common.{◌≡◌, ◌≢◌, inl, inr, ℕ, ◌≤◌, Bool, List, [], length, Some, slice_get, refl, sym, ◌∙◌, subst, arith}
 use Rattle.std.proofs.lemmas.Bool.Decides.{eqb_tells}
-use Rattle.std.proofs.lemmas.Option.{same_Some}
 use Rattle.si_defs.specs.declared.TheConstants.{MOST_OCCURRENCES}
-use Rattle.si_defs.proofs.ListLaws.{get_either, set_same, set_other}
 use Rattle.si_flat.specs.Cells.{Term}
 use Rattle.si_legal.specs.declared.Posting.{Posting}
 use Rattle.si_legal.specs.StoredSets.{IsUnder}
@@ -69,65 +66,33 @@ located_still key other locations old new change differs h = record {
 }
 
 -- ---- all locations
-module _ {A : Type 0} where
-  pub none_noted : (trees : TwoTrees) → ((literal : Bool) (t : Term) (p : Posting) → IsUnder (tree_for literal trees) t p → ⊥) → AreNoted {A = A} [] trees
-  none_noted trees none = record {
-    each = λ key list e. absurd (no_item key list e);
-    few = λ key list e. absurd (no_item key list e);
-    no_others = λ literal t p under. absurd (none literal t p under);
-  }
+-- nothing is stored, and no row has a location
+pub none_noted : (rows : ℕ → List Location) (trees : TwoTrees) → ((key : ℕ) → rows key ≡ []) → ((literal : Bool) (t : Term) (p : Posting) → IsUnder (tree_for literal trees) t p → ⊥) → AreNoted rows trees
+none_noted rows trees empty none = record {
+  each = λ key. subst (λ row. AreLocated key row trees) (sym (empty key)) (none_located key trees (λ literal t p under is. none literal t p under));
+  few = λ key. subst (λ row. length row ≤ MOST_OCCURRENCES) (sym (empty key)) (omega arith);
+}
 
-  pub none_past : (key : ℕ) (locations : List (Vec Location A)) (trees : TwoTrees) → AreNoted locations trees → length locations ≤ key → IsNewKey key trees
-  none_past key locations trees h past literal t p under same = let within : p.clause < length locations = h.no_others literal t p under in omega arith
+-- other postings of one key, at these locations
+pub noted_set : (key : ℕ) (row : List Location) (before rows : ℕ → List Location) (old new : TwoTrees) → AreNoted before old → ChangeOnly key old new → AreLocated key row new → length row ≤ MOST_OCCURRENCES → rows key ≡ row → ((other : ℕ) → other ≢ key → rows other ≡ before other) → AreNoted rows new
+noted_set key row before rows old new h change located few here others = record {
+  each = λ k. elim (eqb_tells k key) as (λ _. AreLocated k (rows k) new) [
+    | inl same ↦ subst (λ n. AreLocated n (rows n) new) (sym same.1) (subst (λ r. AreLocated key r new) (sym here) located)
+    | inr differs ↦ subst (λ r. AreLocated k r new) (sym (others k differs.1)) (located_still key k (before k) old new change differs.1 (h.each k))
+  ];
+  few = λ k. elim (eqb_tells k key) as (λ _. length (rows k) ≤ MOST_OCCURRENCES) [
+    | inl same ↦ subst (λ n. length (rows n) ≤ MOST_OCCURRENCES) (sym same.1) (subst (λ r. length r ≤ MOST_OCCURRENCES) (sym here) few)
+    | inr differs ↦ subst (λ r. length r ≤ MOST_OCCURRENCES) (sym (others k differs.1)) (h.few k)
+  ];
+}
 
-  -- an empty list more
-  pub noted_more : (locations : List (Vec Location A)) (empty : Vec Location A) (trees : TwoTrees) → empty.items ≡ [] → AreNoted locations trees → AreNoted (locations ++ empty ∷ []) trees
-  noted_more locations empty trees none h = record {
-    each = λ key list e. elim (get_either locations empty key list e) as (λ _. AreLocated key list.items trees) [
-      | inl there ↦ h.each key list there
-      | inr last ↦ subst (λ l. AreLocated key l trees) (sym (ap (λ l. l.items) last.1 ∙ none)) (none_located key trees (λ literal t p under is. past key p last.0 is (h.no_others literal t p under)))
-    ];
-    few = λ key list e. elim (get_either locations empty key list e) as (λ _. length list.items ≤ MOST_OCCURRENCES) [
-      | inl there ↦ h.few key list there
-      | inr last ↦ subst (λ l. length l ≤ MOST_OCCURRENCES) (sym (ap (λ l. l.items) last.1 ∙ none)) (omega arith)
-    ];
-    no_others = λ literal t p under. longer (h.no_others literal t p under);
-  } where
-    past : (key : ℕ) (p : Posting) → key ≡ length locations → p.clause ≡ key → p.clause < length locations → ⊥
-    past key p e f less = omega arith
-
-    longer : {n : ℕ} → n < length locations → n < length (locations ++ empty ∷ [])
-    longer less = simp length-append (omega arith)
-
-  -- other postings of one key, at these locations
-  pub noted_set : (key : ℕ) (locations : List (Vec Location A)) (list : Vec Location A) (old new : TwoTrees) → key < length locations → AreNoted locations old → ChangeOnly key old new → AreLocated key list.items new → length list.items ≤ MOST_OCCURRENCES → AreNoted (set locations key list) new
-  noted_set key locations list old new within h change here few = record {
-    each = λ k l e. elim (eqb_tells k key) as (λ _. AreLocated k l.items new) [
-      | inl same ↦ subst (λ n. AreLocated n l.items new) (sym same.1) (subst (λ v. AreLocated key v.items new) (at_key k l same.1 e) here)
-      | inr differs ↦ located_still key k l.items old new change differs.1 (h.each k l (sym (set_other locations key k list differs.1) ∙ e))
-    ];
-    few = λ k l e. elim (eqb_tells k key) as (λ _. length l.items ≤ MOST_OCCURRENCES) [
-      | inl same ↦ subst (λ v. length v.items ≤ MOST_OCCURRENCES) (at_key k l same.1 e) few
-      | inr differs ↦ h.few k l (sym (set_other locations key k list differs.1) ∙ e)
-    ];
-    no_others = λ literal t p under. elim (eqb_tells p.clause key) as (λ _. p.clause < length (set locations key list)) [
-      | inl same ↦ as_long (omega (arith, same.1))
-      | inr differs ↦ as_long (h.no_others literal t p ((change.stored literal t p differs.1).0 under))
-    ];
-  } where
-    at_key : (k : ℕ) (l : Vec Location A) → k ≡ key → slice_get (set locations key list) k ≡ Some l → list ≡ l
-    at_key k l same e = same_Some list l (sym (set_same locations key list within) ∙ subst (λ n. slice_get (set locations key list) n ≡ Some l) same e)
-
-    as_long : {n : ℕ} → n < length locations → n < length (set locations key list)
-    as_long less = simp length-set less
-
-  -- no posting of the key comes
-  pub noted_same : (key : ℕ) (locations : List (Vec Location A)) (old new : TwoTrees) → AreNoted locations old → ChangeOnly key old new → IsNewKey key old → IsNewKey key new → AreNoted locations new
-  noted_same key locations old new h change none gone = record {
-    each = λ k l e. elim (eqb_tells k key) as (λ _. AreLocated k l.items new) [
-      | inl same ↦ subst (λ n. AreLocated n l.items new) (sym same.1) (located_none key l.items old new (subst (λ n. AreLocated n l.items old) same.1 (h.each k l e)) none gone)
-      | inr differs ↦ located_still key k l.items old new change differs.1 (h.each k l e)
-    ];
-    few = h.few;
-    no_others = λ literal t p under. h.no_others literal t p ((change.stored literal t p (gone literal t p under)).0 under);
-  }
+-- no posting of the key comes
+pub noted_same : (key : ℕ) (before rows : ℕ → List Location) (old new : TwoTrees) → AreNoted before old → ChangeOnly key old new → IsNewKey key old → IsNewKey key new → ((other : ℕ) → rows other ≡ before other) → AreNoted rows new
+noted_same key before rows old new h change none gone same = record {
+  each = λ k. subst (λ r. AreLocated k r new) (sym (same k))
+      (elim (eqb_tells k key) as (λ _. AreLocated k (before k) new) [
+        | inl is ↦ subst (λ n. AreLocated n (before n) new) (sym is.1) (located_none key (before key) old new (h.each key) none gone)
+        | inr differs ↦ located_still key k (before k) old new change differs.1 (h.each k)
+      ]);
+  few = λ k. subst (λ r. length r ≤ MOST_OCCURRENCES) (sym (same k)) (h.few k);
+}

@@ -1,5 +1,6 @@
 pub mod OneLaws
 mod PlaceLaws
+pub mod NoteLaws
 pub mod TreeLaws
 pub mod ChangeLaws
 pub mod LoseLaws

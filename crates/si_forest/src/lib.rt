@@ -3,6 +3,7 @@
 #![tactic(auto)]
 
 mod location;
+mod notes;
 mod pair;
 mod trees;
 

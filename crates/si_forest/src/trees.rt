@@ -1,5 +1,5 @@
 // The trees of an index.
-ghost use Rattle.std.specs.Prelude.{◌≡◌, ◌<◌, IfOk, OnErr, OnOk, length};
+ghost use Rattle.std.specs.Prelude.{◌≡◌, IfOk, OnErr, OnOk};
 ghost use Rattle.si_flat.specs.Cells.{Term};
 ghost use Rattle.si_term.specs.Meaning.{clause_of};
 ghost use Rattle.si_legal.specs.Legal.{IsLegal};
@@ -8,11 +8,10 @@ ghost use Rattle.si_legal.specs.StoredSets.{IsUnder};
 ghost use Rattle.si_descend.specs.Answers.{Retrieves};
 ghost use Rattle.si_descend.specs.Counting.{CountsAnswers};
 ghost use Rattle.si_descend.specs.Descending.{IsQuery};
-ghost use Rattle.si_held.specs.TwoTrees.{TwoTrees, AddsClause, AreLegal, HoldSame, MayAddClause, RemovesClause, tree_for};
+ghost use Rattle.si_held.specs.TwoTrees.{AddsClause, AreLegal, HoldSame, MayAddClause, RemovesClause, tree_for};
 ghost use Rattle.si_forest.specs.Pairs.{AreAlone};
-ghost use Rattle.si_forest.specs.Kept.{AreNoted};
 
-use crate::location::Location;
+use crate::notes::Notes;
 use crate::pair::Pair;
 use si_defs::Relation;
 use si_descend::{Counted, SearchMemory};
@@ -30,7 +29,7 @@ pub struct Trees {
     alloc: Global,
     pair: Pair,
     // Where the posting of each entry stands, by the key of its clause and its number.
-    locations: Vec<Vec<Location>>,
+    notes: Notes,
 }
 
 impl Model for Trees {
@@ -56,7 +55,7 @@ impl Trees {
         Ok(Trees {
             alloc,
             pair: Pair::new(alloc)?,
-            locations: Vec::new(alloc),
+            notes: Notes::new(alloc),
         })
     }
 
@@ -89,7 +88,7 @@ impl Trees {
         requires { (t : Term) × IsUnder (tree_for literal self.now) t posting }
         ensures { (t : Term) × StandsIn (tree_for literal self.now) result t posting }
     {
-        self.locations[posting.clause][posting.entry as usize].leaf()
+        self.notes.row(posting.clause)[posting.entry as usize].leaf()
     }
 
     /// Puts a posting for each entry of a clause into its tree. At an error the trees store what
@@ -106,23 +105,26 @@ impl Trees {
         ensures err { OnErr result (HoldSame self.old self.new) }
         ensures legal { AreLegal self.new }
     {
-        make_place(self.alloc, &mut self.locations, key)?;
         let locations = self.pair.add_clause(self.alloc, table, key, clause)?;
-        self.locations[key] = locations;
-        Ok(())
+        match self.notes.set(key, locations.as_slice()) {
+            Ok(()) => Ok(()),
+            Err(error) => {
+                self.pair
+                    .remove_clause(self.alloc, key, locations.as_slice());
+                Err(error)
+            }
+        }
     }
 
     /// Takes out the postings of the clause with this key. It takes no memory, but for joins of
-    /// nodes, which are left out where there is none.
+    /// nodes, and to close what notes leave empty; both are left out where there is none.
     pub fn remove_clause(&mut self, key: usize)
         ensures removes { RemovesClause key self.old self.new }
         ensures legal { AreLegal self.new }
     {
-        if key < self.locations.len() {
-            let locations = std::mem::replace(&mut self.locations[key], Vec::new(self.alloc));
-            self.pair
-                .remove_clause(self.alloc, key, locations.as_slice());
-        }
+        self.pair
+            .remove_clause(self.alloc, key, self.notes.row(key));
+        self.notes.clear(self.alloc, key);
     }
 
     /// Appends the postings of the stored terms of this kind that stand in the relation to the
@@ -165,20 +167,4 @@ impl Trees {
     {
         si_descend::count(self.alloc, memory, self.pair.tree(literal), relation, query)
     }
-}
-
-// Makes a place for the locations of the clause with this key.
-fn make_place(
-    alloc: Global,
-    locations: &mut Vec<Vec<Location>>,
-    key: usize,
-) -> Result<(), AllocError>
-    ensures noted { (trees : TwoTrees) → AreNoted locations.old.items trees
-        → AreNoted locations.new.items trees }
-    ensures place { OnOk result (key < length locations.new.items) }
-{
-    while locations.len() <= key {
-        locations.push(Vec::new(alloc))?;
-    }
-    Ok(())
 }

@@ -22,4 +22,5 @@ pub use counting::Counted;
 pub use descent::{count, descend, descend_with, retrieve, slots_for};
 pub use memory::SearchMemory;
 pub use rights::longest_right;
+pub use si_flat::Kind;
 pub use taken::Taken;

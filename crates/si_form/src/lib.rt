@@ -31,6 +31,6 @@ pub use laws::{
 };
 pub use query::CountedQuery;
 pub use relations::{canonical, canonical_counted};
-pub use si_flat::Owner;
+pub use si_flat::{Kind, Owner};
 pub use si_unify::Scratch;
 pub use solution::{Binding, Solution};

@@ -118,9 +118,9 @@ fn assert_run(
     assert_run_over(rt, alloc, limits, input, devices, &mut library, due)
 }
 
-/// The line `add cnf(n,axiom,p(T)).`, where `T` is `a` inside so many `f(` `)`.
-fn nested(alloc: Global, depth: u32) -> Result<Vec<u8>, AllocError> {
-    let mut line = b"add cnf(n,axiom,p(".to_vec(alloc)?;
+/// The line that begins and ends so, with `a` inside so many `f(` `)` between.
+fn nested(alloc: Global, begin: &[u8], depth: u32, end: &[u8]) -> Result<Vec<u8>, AllocError> {
+    let mut line = begin.to_vec(alloc)?;
     for _ in 0..depth {
         line.extend_from_slice(b"f(")?;
     }
@@ -128,7 +128,7 @@ fn nested(alloc: Global, depth: u32) -> Result<Vec<u8>, AllocError> {
     for _ in 0..depth {
         line.push(b')')?;
     }
-    line.extend_from_slice(b")).\n")?;
+    line.extend_from_slice(end)?;
     Ok(line)
 }
 
@@ -209,10 +209,10 @@ const ROWS: [(&[u8], &[u8]); 22] = [
         b"add cnf(e,plain,($false),inference(spm,[status(thm)],[c_0_2,c_0_3])).\nadd cnf(c_0_5, plain, (p(X1)|~q(X1,esk1_0)), inference(rw,[status(thm)],[c_0_2, c_0_3]), ['final']).\nstats\n",
         b"ok 1 1\nok 1 3\nclauses 2 entries 4 symbols 4\n",
     ),
-    // Numbers of nodes, of empty trees and of a clause's.
+    // Numbers of nodes, of empty trees, of a clause's, and of those that it leaves.
     (
-        b"tree\nexplain x\n%\nadd cnf(c1,axiom,p(f(X),a)).\nexplain unifiable lit p(Y,Z)\nexplain unifiable term b\ntree\n",
-        b"literals nodes 1 leaves 0 unmerged 0\nterms nodes 1 leaves 0 unmerged 0\n! syntax\nok 1 3\npassed 2 nodes 2 answers 1\npassed 1 nodes 3 answers 0\nliterals nodes 2 leaves 1 unmerged 0\nterms nodes 3 leaves 2 unmerged 0\n",
+        b"tree\nexplain x\n%\nadd cnf(c1,axiom,p(f(X),a)).\nexplain unifiable lit p(Y,Z)\nexplain unifiable term b\ntree\nremove c1\ntree\n",
+        b"literals nodes 1 leaves 0 unmerged 0\nterms nodes 1 leaves 0 unmerged 0\n! syntax\nok 1 3\npassed 2 nodes 2 answers 1\npassed 1 nodes 3 answers 0\nliterals nodes 2 leaves 1 unmerged 0\nterms nodes 3 leaves 2 unmerged 0\nok 1 3\nliterals nodes 1 leaves 0 unmerged 0\nterms nodes 1 leaves 0 unmerged 0\n",
     ),
     // Two spellings of one name, and an integer that is another.
     (
@@ -309,7 +309,18 @@ fn assert_nested(
     depth: u32,
     output: &[u8],
 ) -> Result<(), AllocError> {
-    let line = nested(alloc, depth)?;
+    let line = nested(alloc, b"add cnf(n,axiom,p(", depth, b")).\n")?;
+    assert_outputs(rt, alloc, &[(line.as_slice(), output)])
+}
+
+/// Looks at the reply to a question whose pattern is nested so deep.
+fn assert_nested_pattern(
+    rt: &impl Abort,
+    alloc: Global,
+    depth: u32,
+    output: &[u8],
+) -> Result<(), AllocError> {
+    let line = nested(alloc, b"instances term ", depth, b"\n")?;
     assert_outputs(rt, alloc, &[(line.as_slice(), output)])
 }
 
@@ -320,9 +331,11 @@ fn assert_wide(rt: &impl Abort, alloc: Global, more: u32, output: &[u8]) -> Resu
 }
 
 #[test]
-fn deep_and_wide_clauses(rt: HostRuntime) -> Result<(), Fail> {
+fn deep_and_wide_lines(rt: HostRuntime) -> Result<(), Fail> {
     assert_nested(&rt, rt.alloc(), 510, b"ok 1 512\n")?;
     assert_nested(&rt, rt.alloc(), 511, b"! syntax\n")?;
+    assert_nested_pattern(&rt, rt.alloc(), 512, b"end 0\n")?;
+    assert_nested_pattern(&rt, rt.alloc(), 513, b"! syntax\n")?;
     assert_wide(&rt, rt.alloc(), 0, b"ok 1 2\n")?;
     assert_wide(&rt, rt.alloc(), 4999, b"ok 1 5001\n")?;
     Ok(())

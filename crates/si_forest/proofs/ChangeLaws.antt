@@ -66,33 +66,22 @@ located_still key other locations old new change differs h = record {
 }
 
 -- ---- all locations
--- nothing is stored, and no row has a location
-pub none_noted : (rows : ℕ → List Location) (trees : TwoTrees) → ((key : ℕ) → rows key ≡ []) → ((literal : Bool) (t : Term) (p : Posting) → IsUnder (tree_for literal trees) t p → ⊥) → AreNoted rows trees
-none_noted rows trees empty none = record {
-  each = λ key. subst (λ row. AreLocated key row trees) (sym (empty key)) (none_located key trees (λ literal t p under is. none literal t p under));
-  few = λ key. subst (λ row. length row ≤ MOST_OCCURRENCES) (sym (empty key)) (omega arith);
+-- nothing is stored, and no key has notes
+pub none_noted : (notes : ℕ → List Location) (trees : TwoTrees) → ((key : ℕ) → notes key ≡ []) → ((literal : Bool) (t : Term) (p : Posting) → IsUnder (tree_for literal trees) t p → ⊥) → AreNoted notes trees
+none_noted notes trees empty none = record {
+  each = λ key. subst (λ l. AreLocated key l trees) (sym (empty key)) (none_located key trees (λ literal t p under is. none literal t p under));
+  few = λ key. subst (λ l. length l ≤ MOST_OCCURRENCES) (sym (empty key)) (omega arith);
 }
 
 -- other postings of one key, at these locations
-pub noted_set : (key : ℕ) (row : List Location) (before rows : ℕ → List Location) (old new : TwoTrees) → AreNoted before old → ChangeOnly key old new → AreLocated key row new → length row ≤ MOST_OCCURRENCES → rows key ≡ row → ((other : ℕ) → other ≢ key → rows other ≡ before other) → AreNoted rows new
-noted_set key row before rows old new h change located few here others = record {
-  each = λ k. elim (eqb_tells k key) as (λ _. AreLocated k (rows k) new) [
-    | inl same ↦ subst (λ n. AreLocated n (rows n) new) (sym same.1) (subst (λ r. AreLocated key r new) (sym here) located)
-    | inr differs ↦ subst (λ r. AreLocated k r new) (sym (others k differs.1)) (located_still key k (before k) old new change differs.1 (h.each k))
+pub noted_set : (key : ℕ) (own : List Location) (before notes : ℕ → List Location) (old new : TwoTrees) → AreNoted before old → ChangeOnly key old new → AreLocated key own new → length own ≤ MOST_OCCURRENCES → notes key ≡ own → ((other : ℕ) → other ≢ key → notes other ≡ before other) → AreNoted notes new
+noted_set key own before notes old new h change located few here others = record {
+  each = λ k. elim (eqb_tells k key) as (λ _. AreLocated k (notes k) new) [
+    | inl same ↦ subst (λ n. AreLocated n (notes n) new) (sym same.1) (subst (λ l. AreLocated key l new) (sym here) located)
+    | inr differs ↦ subst (λ l. AreLocated k l new) (sym (others k differs.1)) (located_still key k (before k) old new change differs.1 (h.each k))
   ];
-  few = λ k. elim (eqb_tells k key) as (λ _. length (rows k) ≤ MOST_OCCURRENCES) [
-    | inl same ↦ subst (λ n. length (rows n) ≤ MOST_OCCURRENCES) (sym same.1) (subst (λ r. length r ≤ MOST_OCCURRENCES) (sym here) few)
-    | inr differs ↦ subst (λ r. length r ≤ MOST_OCCURRENCES) (sym (others k differs.1)) (h.few k)
+  few = λ k. elim (eqb_tells k key) as (λ _. length (notes k) ≤ MOST_OCCURRENCES) [
+    | inl same ↦ subst (λ n. length (notes n) ≤ MOST_OCCURRENCES) (sym same.1) (subst (λ l. length l ≤ MOST_OCCURRENCES) (sym here) few)
+    | inr differs ↦ subst (λ l. length l ≤ MOST_OCCURRENCES) (sym (others k differs.1)) (h.few k)
   ];
-}
-
--- no posting of the key comes
-pub noted_same : (key : ℕ) (before rows : ℕ → List Location) (old new : TwoTrees) → AreNoted before old → ChangeOnly key old new → IsNewKey key old → IsNewKey key new → ((other : ℕ) → rows other ≡ before other) → AreNoted rows new
-noted_same key before rows old new h change none gone same = record {
-  each = λ k. subst (λ r. AreLocated k r new) (sym (same k))
-      (elim (eqb_tells k key) as (λ _. AreLocated k (before k) new) [
-        | inl is ↦ subst (λ n. AreLocated n (before n) new) (sym is.1) (located_none key (before key) old new (h.each key) none gone)
-        | inr differs ↦ located_still key k (before k) old new change differs.1 (h.each k)
-      ]);
-  few = λ k. subst (λ r. length r ≤ MOST_OCCURRENCES) (sym (same k)) (h.few k);
 }

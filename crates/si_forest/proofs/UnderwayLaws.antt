@@ -1,10 +1,9 @@
 -- The walk through a clause's entries, whose postings come one after the other.
 use Rattle.std.proofs.Common.{◌≡◌, ℕ, ◌+◌, ◌<◌, ◌≤◌, Bool, List, [], ◌∷◌, ◌++◌, length, Option, None, Some, refl, sym, ◌∙◌, ap, subst, arith, append_assoc, append-nil, length-append}
 use Rattle.si_defs.specs.Symbols.{Numbering}
-use Rattle.si_defs.specs.Clauses.{Clause, IsSoundClause}
+use Rattle.si_defs.specs.Clauses.{Clause}
 use Rattle.si_defs.specs.Entries.{Entry, entries}
-use Rattle.si_defs.specs.declared.TheConstants.{MOST_OCCURRENCES}
-use Rattle.si_term.proofs.Alone.{clause_few, length-entries}
+use Rattle.si_term.proofs.Alone.{length-entries}
 use Rattle.si_term.specs.Walks.{entries_alone}
 use Rattle.si_flat.specs.declared.Cell.{Cell}
 use Rattle.si_flat.specs.Cells.{entry, Term, StandsFor}
@@ -75,10 +74,9 @@ module _ (numbers : Numbering) (key : ℕ) (all : List Entry) (f : FlatEntries) 
     pub all_in : (after : FlatEntries) (given : Option Bool) → GivesFlat numbers f after given → given ≡ None → AddsClause numbers key c old now
     all_in after given gives is = in_all numbers key c locations old now (subst (λ es. AreIn numbers key es locations old now) (sym (sym are ∙ u.all_are ∙ ap (λ l. u.passed ++ l) (subst (λ o. GivesNext numbers after o u.left) is (gives u.left u.left_are)) ∙ append-nil u.passed)) u.are_in)
 
-    pub few_in : IsSoundClause c → length locations ≤ MOST_OCCURRENCES
-    few_in sound =
+    pub few_in : length locations ≤ length (entries c)
+    few_in =
         let whole : length all ≡ length u.passed + length u.left = ap length u.all_are ∙ length-append u.passed u.left in
-        let bound : length (entries c) ≤ MOST_OCCURRENCES = clause_few c sound in
         let same : length (entries c) ≡ length (entries_alone c.literals) = length-entries 1 c.literals in
         omega (arith, u.are_in.many, ap length are)
 

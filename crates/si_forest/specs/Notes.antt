@@ -1,38 +1,49 @@
--- How the locations of the postings of all clauses are kept: in one list, of which each clause has a
--- row, by its key.
-use Rattle.std.specs.Prelude.{◌≡◌, ◌≢◌, ◌≤◌, ◌+◌, ℕ, List, drop, get_or, length, take}
+-- How the locations of the postings of all clauses are kept: in one list, of which each clause has
+-- a span, by its key. The locations in it are the clause's notes.
+use Rattle.std.specs.Prelude.{◌≡◌, ◌≢◌, ◌<◌, ◌≤◌, ◌+◌, ◌^◌, ℕ, List, drop, get_or, length, take, Vec, vec_capacity}
 use Rattle.si_forest.specs.Locations.{Location}
 use Rattle.si_forest.specs.declared.notes.Notes.{Notes}
-use Rattle.si_forest.specs.declared.notes.Row.{Row}
+use Rattle.si_forest.specs.declared.notes.Span.{Span}
 
-abbrev pub row_in : List Location → Row → List Location
-row_in locations row = take row.len (drop row.start locations)
+abbrev pub notes_in : List Location → Span → List Location
+notes_in locations span = take span.len (drop span.start locations)
 
-abbrev pub no_row : Row
-no_row = record { start = 0; len = 0 }
+abbrev pub no_span : Span
+no_span = record { start = 0; len = 0 }
 
--- the row of a key; a key beyond all has none
-abbrev pub keyed_row : List Row → ℕ → Row
-keyed_row rows key = get_or rows key no_row
+-- the span of a key; a key beyond all has none
+abbrev pub keyed_span : List Span → ℕ → Span
+keyed_span spans key = get_or spans key no_span
 
-abbrev pub row_of : Notes → ℕ → List Location
-row_of notes key = row_in notes.locations.items (keyed_row notes.rows.items key)
+abbrev pub notes_of : Notes → ℕ → List Location
+notes_of notes key = notes_in notes.locations.items (keyed_span notes.spans.items key)
 
--- the row is a part of a list of so many
-abbrev pub IsWithin : ℕ → Row → Type 0
-IsWithin n row = row.start + row.len ≤ n
+-- the span is a part of a list of so many
+abbrev pub IsWithin : ℕ → Span → Type 0
+IsWithin n span = span.start + span.len ≤ n
 
-abbrev pub AreWithin : ℕ → List Row → Type 0
-AreWithin n rows = (key : ℕ) → IsWithin n (keyed_row rows key)
+abbrev pub AreWithin : ℕ → List Span → Type 0
+AreWithin n spans = (key : ℕ) → IsWithin n (keyed_span spans key)
 
-abbrev pub AreRows : Notes → Type 0
-AreRows notes = AreWithin (length notes.locations.items) notes.rows.items
+abbrev pub AreSpans : Notes → Type 0
+AreSpans notes = AreWithin (length notes.locations.items) notes.spans.items
 
--- the rows of all keys are as they were
-abbrev pub KeepRows : Notes → Notes → Type 0
-KeepRows old new = (key : ℕ) → row_of new key ≡ row_of old key
+-- the notes of all keys are as they were
+abbrev pub KeepNotes : Notes → Notes → Type 0
+KeepNotes old new = (key : ℕ) → notes_of new key ≡ notes_of old key
 
--- the row of this key is another one, and all others are as they were
-pub record HasRow (old new : Notes) (key : ℕ) (row : List Location) : Type 0 where
-  pub here : row_of new key ≡ row
-  pub others : (other : ℕ) → other ≢ key → row_of new other ≡ row_of old other
+-- the notes of this key are other ones, and all others are as they were
+pub record HasNotes (old new : Notes) (key : ℕ) (notes : List Location) : Type 0 where
+  pub here : notes_of new key ≡ notes
+  pub others : (other : ℕ) → other ≢ key → notes_of new other ≡ notes_of old other
+
+-- so many more fit into the list, and 32 bits count them, and those before them
+pub record HasRoom {A : Type 0} (locations : Vec Location A) (more : ℕ) : Type 0 where
+  pub room : length locations.items + more ≤ vec_capacity locations
+  pub start : length locations.items < 2 ^ 32
+  pub len : more < 2 ^ 32
+
+-- the key may be given so many notes
+pub record HasPlace (notes : Notes) (key count : ℕ) : Type 0 where
+  pub place : key < length notes.spans.items
+  pub room : HasRoom notes.locations count

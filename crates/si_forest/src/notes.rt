@@ -1,97 +1,107 @@
 // Where the postings of all clauses stand.
-ghost use Rattle.std.specs.Prelude.{◌≡◌, ◌<◌, ℕ, [], ◌++◌, IfOk, OnErr, OnOk, length};
-ghost use Rattle.si_forest.specs.Notes.{row_in, row_of, keyed_row, AreRows, HasRow, IsWithin, KeepRows};
+ghost use Rattle.std.specs.Prelude.{◌≡◌, ◌<◌, ℕ, [], ◌++◌, IfOk, OnOk, length};
+ghost use Rattle.si_forest.specs.Notes.{notes_in, notes_of, keyed_span, AreSpans, HasNotes, HasPlace, HasRoom, IsWithin, KeepNotes};
 
 use crate::location::Location;
 use std::alloc::{AllocError, Global};
 
-/// Which part of a list is a row.
+/// Which part of the list of locations a key has.
 #[derive(Clone, Copy)]
-pub(crate) struct Row {
+pub(crate) struct Span {
     start: u32,
     len: u32,
 }
 
-/// The locations of the postings of all clauses, in one list. A clause has a row in it by its key.
+/// The locations of the postings of all clauses, in one list. A clause has a span of it by its key:
+/// these are its notes.
 #[derive(Drop)]
 pub(crate) struct Notes {
     locations: Vec<Location>,
-    rows: Vec<Row>,
-    // How many of the locations are in no row. It decides when these are closed.
-    gone: usize,
+    spans: Vec<Span>,
+    // How many of the locations are in no span. It decides when they are closed.
+    holes: usize,
 }
 
 impl Notes {
-    /// No rows.
+    /// No notes.
     pub(crate) fn new(alloc: Global) -> Notes
-        ensures rows { AreRows result }
-        ensures none { (key : ℕ) → row_of result key ≡ [] }
+        ensures spans { AreSpans result }
+        ensures none { (key : ℕ) → notes_of result key ≡ [] }
     {
         Notes {
             locations: Vec::new(alloc),
-            rows: Vec::new(alloc),
-            gone: 0,
+            spans: Vec::new(alloc),
+            holes: 0,
         }
     }
 
-    /// The row of a key. It is empty where no clause has the key.
-    pub(crate) fn row(&self, key: usize) -> &[Location]
-        requires { AreRows self.now }
-        ensures { result.now ≡ row_of self.now key }
+    /// The notes of a key. There are none where no clause has the key.
+    pub(crate) fn get(&self, key: usize) -> &[Location]
+        requires { AreSpans self.now }
+        ensures { result.now ≡ notes_of self.now key }
     {
-        let Some(row) = self.rows.get(key) else {
+        let Some(span) = self.spans.get(key) else {
             return Default::default();
         };
-        &self.locations[row.start as usize..][..row.len as usize]
+        &self.locations[span.start as usize..][..span.len as usize]
     }
 
-    /// Gives a key this row. At an error all rows are as before.
-    pub(crate) fn set(&mut self, key: usize, row: &[Location]) -> Result<(), AllocError>
-        requires { AreRows self.old }
-        ensures rows { AreRows self.new }
-        ensures ok { OnOk result (HasRow self.old self.new key row.now) }
-        ensures err { OnErr result (KeepRows self.old self.new) }
+    /// Makes place and room for so many notes of a key. All notes are as before.
+    pub(crate) fn reserve(&mut self, key: usize, count: usize) -> Result<(), AllocError>
+        requires { AreSpans self.old }
+        ensures spans { AreSpans self.new }
+        ensures keeps { KeepNotes self.old self.new }
+        ensures place { OnOk result (HasPlace self.new key count) }
     {
-        make_place(&mut self.rows, key)?;
-        let row = append(&mut self.locations, row)?;
-        self.put(key, row);
-        Ok(())
+        make_place(&mut self.spans, key)?;
+        make_room(&mut self.locations, count)
     }
 
-    /// Takes the row of a key away. It takes no memory, but to close what is left empty, which stays
-    /// where there is none.
+    /// Gives a key these notes, for which there is place and room.
+    pub(crate) fn set(&mut self, key: usize, notes: &[Location])
+        requires spans { AreSpans self.old }
+        requires place { HasPlace self.old key (length notes.now) }
+        ensures spans { AreSpans self.new }
+        ensures set { HasNotes self.old self.new key notes.now }
+    {
+        let span = append(&mut self.locations, notes);
+        self.put(key, span);
+    }
+
+    /// Takes the notes of a key away. It takes no memory, but to close the holes, which stay where
+    /// there is none.
     pub(crate) fn clear(&mut self, alloc: Global, key: usize)
-        requires { AreRows self.old }
-        ensures rows { AreRows self.new }
-        ensures none { HasRow self.old self.new key [] }
+        requires { AreSpans self.old }
+        ensures spans { AreSpans self.new }
+        ensures none { HasNotes self.old self.new key [] }
     {
-        if key >= self.rows.len() {
+        if key >= self.spans.len() {
             return;
         }
-        self.put(key, Row { start: 0, len: 0 });
+        self.put(key, Span { start: 0, len: 0 });
         self.close(alloc);
     }
 
-    // Puts a row in the place of the one that a key has.
-    fn put(&mut self, key: usize, row: Row)
-        requires rows { AreRows self.old }
-        requires place { key < length self.old.rows.items }
-        requires within { IsWithin (length self.old.locations.items) row }
-        ensures rows { AreRows self.new }
-        ensures put { HasRow self.old self.new key (row_in self.old.locations.items row) }
+    // Puts a span in the place of the one that a key has.
+    fn put(&mut self, key: usize, span: Span)
+        requires spans { AreSpans self.old }
+        requires place { key < length self.old.spans.items }
+        requires within { IsWithin (length self.old.locations.items) span }
+        ensures spans { AreSpans self.new }
+        ensures put { HasNotes self.old self.new key (notes_in self.old.locations.items span) }
     {
-        self.gone = self.gone.saturating_add(self.rows[key].len as usize);
-        self.rows[key] = row;
+        self.holes = self.holes.saturating_add(self.spans[key].len as usize);
+        self.spans[key] = span;
     }
 
-    // Closes what is in no row, where it is most of what is looked at then.
+    // Closes the holes, where they are more than half of the list plus one for each key.
     fn close(&mut self, alloc: Global)
-        requires { AreRows self.old }
-        ensures rows { AreRows self.new }
-        ensures keeps { KeepRows self.old self.new }
+        requires { AreSpans self.old }
+        ensures spans { AreSpans self.new }
+        ensures keeps { KeepNotes self.old self.new }
     {
-        let most = self.rows.len().saturating_add(self.locations.len() / 2);
-        if self.gone <= most {
+        let most = self.spans.len().saturating_add(self.locations.len() / 2);
+        if self.holes <= most {
             return;
         }
         if let Ok(notes) = self.closed(alloc) {
@@ -99,61 +109,68 @@ impl Notes {
         }
     }
 
-    // The same rows, with nothing between them.
+    // The same notes, with nothing between them.
     fn closed(&self, alloc: Global) -> Result<Notes, AllocError>
-        requires { AreRows self.now }
-        ensures rows { IfOk result AreRows }
-        ensures keeps { IfOk result (KeepRows self.now) }
+        requires { AreSpans self.now }
+        ensures spans { IfOk result AreSpans }
+        ensures keeps { IfOk result (KeepNotes self.now) }
     {
-        let left = self.locations.len().saturating_sub(self.gone);
+        let left = self.locations.len().saturating_sub(self.holes);
         let mut locations = Vec::with_capacity(alloc, left)?;
-        let mut rows = Vec::with_capacity(alloc, self.rows.len())?;
-        for key in 0..self.rows.len() {
-            let row = append(&mut locations, self.row(key))?;
-            rows.push(row)?;
+        let mut spans = Vec::with_capacity(alloc, self.spans.len())?;
+        for key in 0..self.spans.len() {
+            let notes = self.get(key);
+            make_room(&mut locations, notes.len())?;
+            let span = append(&mut locations, notes);
+            spans.push(span)?;
         }
         Ok(Notes {
             locations,
-            rows,
-            gone: 0,
+            spans,
+            holes: 0,
         })
     }
 }
 
-// Makes a place for the row of this key.
-fn make_place(rows: &mut Vec<Row>, key: usize) -> Result<(), AllocError>
-    ensures same { (other : ℕ) → keyed_row rows.new.items other ≡ keyed_row rows.old.items other }
-    ensures place { OnOk result (key < length rows.new.items) }
+// Makes a place for the span of this key.
+fn make_place(spans: &mut Vec<Span>, key: usize) -> Result<(), AllocError>
+    ensures same { (other : ℕ)
+        → keyed_span spans.new.items other ≡ keyed_span spans.old.items other }
+    ensures place { OnOk result (key < length spans.new.items) }
 {
-    while rows.len() <= key {
-        rows.push(Row { start: 0, len: 0 })?;
+    while spans.len() <= key {
+        spans.push(Span { start: 0, len: 0 })?;
     }
     Ok(())
 }
 
-// Appends a row. One that begins beyond 32 bits is answered as want of memory.
-fn append(locations: &mut Vec<Location>, row: &[Location]) -> Result<Row, AllocError>
-    ensures ok { OnOk result (locations.new.items ≡ locations.old.items ++ row.now) }
-    ensures err { OnErr result (locations.new.items ≡ locations.old.items) }
-    ensures row { IfOk result (λ r. row_in locations.new.items r ≡ row.now) }
-    ensures within { IfOk result (IsWithin (length locations.new.items)) }
+// Appends notes, for which there is room, and answers their span.
+fn append(locations: &mut Vec<Location>, notes: &[Location]) -> Span
+    requires { HasRoom locations.old (length notes.now) }
+    ensures items { locations.new.items ≡ locations.old.items ++ notes.now }
+    ensures span { notes_in locations.new.items result ≡ notes.now }
+    ensures within { IsWithin (length locations.new.items) result }
 {
-    let Ok(start) = u32::try_from(locations.len()) else {
-        return Err(AllocError);
+    let span = Span {
+        start: locations.len() as u32,
+        len: notes.len() as u32,
     };
-    let Ok(len) = u32::try_from(row.len()) else {
-        return Err(AllocError);
+    let Ok(()) = locations.extend_from_slice(notes) else {
+        unreachable!()
     };
-    make_room(locations, row.len())?;
-    locations.extend_from_slice(row)?;
-    Ok(Row { start, len })
+    span
 }
 
-// Makes room for so many more. A list that is full gets room for a quarter more besides.
+// Makes room for so many more. A list that is full gets room for a quarter more besides. Where 32
+// bits don't count them, or those before them, it is answered as want of memory.
 fn make_room(locations: &mut Vec<Location>, more: usize) -> Result<(), AllocError>
-    ensures { locations.new.items ≡ locations.old.items }
+    ensures same { locations.new.items ≡ locations.old.items }
+    ensures room { OnOk result (HasRoom locations.new more) }
 {
     let len = locations.len();
+    if len > u32::MAX as usize || more > u32::MAX as usize {
+        return Err(AllocError);
+    }
     if locations.capacity() - len >= more {
         return Ok(());
     }

@@ -67,7 +67,8 @@ impl Pair {
         ensures adds { OnOk result (AddsClause (T.pairs table.now) key (clause_of clause.now)
             (two_of self.old) (two_of self.new)) }
         ensures located { IfOk result (λ all. AreLocated key all.items (two_of self.new)) }
-        ensures few { IfOk result (λ all. length all.items ≤ MOST_OCCURRENCES) }
+        ensures few { IfOk result (λ all. length all.items
+            ≤ length (entries (clause_of clause.now))) }
         ensures err { OnErr result (IsNewKey key (two_of self.new)) }
         ensures change { ChangeOnly key (two_of self.old) (two_of self.new) }
     {
@@ -117,7 +118,7 @@ impl Pair {
             (two_of self.old) (two_of self.new)) }
         ensures change { ChangeOnly key (two_of self.old) (two_of self.new) }
         ensures located { AreLocated key locations.new.items (two_of self.new) }
-        ensures few { length locations.new.items ≤ MOST_OCCURRENCES }
+        ensures few { length locations.new.items ≤ length (entries (clause_of clause.now)) }
     {
         let mut entries = FlatEntries::new(alloc, clause);
         while let Some(literal) = entries.next(table)? {

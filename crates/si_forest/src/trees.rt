@@ -17,7 +17,7 @@ use si_defs::Relation;
 use si_descend::{Counted, SearchMemory};
 use si_flat::Flat;
 use si_legal::Posting;
-use si_term::{Clause, SymTable};
+use si_term::{Clause, SymTable, entry_count};
 use si_tree::{NodeId, Tree};
 use std::alloc::{AllocError, Global};
 use std::marker::Model;
@@ -88,7 +88,7 @@ impl Trees {
         requires { (t : Term) × IsUnder (tree_for literal self.now) t posting }
         ensures { (t : Term) × StandsIn (tree_for literal self.now) result t posting }
     {
-        self.notes.row(posting.clause)[posting.entry as usize].leaf()
+        self.notes.get(posting.clause)[posting.entry as usize].leaf()
     }
 
     /// Puts a posting for each entry of a clause into its tree. At an error the trees store what
@@ -105,15 +105,10 @@ impl Trees {
         ensures err { OnErr result (HoldSame self.old self.new) }
         ensures legal { AreLegal self.new }
     {
+        self.notes.reserve(key, entry_count(clause) as usize)?;
         let locations = self.pair.add_clause(self.alloc, table, key, clause)?;
-        match self.notes.set(key, locations.as_slice()) {
-            Ok(()) => Ok(()),
-            Err(error) => {
-                self.pair
-                    .remove_clause(self.alloc, key, locations.as_slice());
-                Err(error)
-            }
-        }
+        self.notes.set(key, locations.as_slice());
+        Ok(())
     }
 
     /// Takes out the postings of the clause with this key. It takes no memory, but for joins of
@@ -123,7 +118,7 @@ impl Trees {
         ensures legal { AreLegal self.new }
     {
         self.pair
-            .remove_clause(self.alloc, key, self.notes.row(key));
+            .remove_clause(self.alloc, key, self.notes.get(key));
         self.notes.clear(self.alloc, key);
     }
 

@@ -3,4 +3,4 @@ use Rattle.si_forest.proofs.NoteLaws.{AreWritten}
 use Rattle.si_forest.proofs.notes.Notes.closed.Given as goal
 
 abbrev pub invariant-loop-key : goal.invariant-loop-key
-invariant-loop-key l = AreWritten l.self.locations.items l.self.rows.items l.locations.items l.rows.items × (length l.rows.items ≡ l.key)
+invariant-loop-key l = AreWritten l.self.locations.items l.self.spans.items l.locations.items l.spans.items × (length l.spans.items ≡ l.key)

@@ -1,9 +1,10 @@
 use Rattle.std.proofs.Common.{◌≡◌, ℕ, ◌+◌, ◌-◌, ◌<◌, ◌≤◌, ◌++◌, ◌∷◌, [], length, refl, ap, ◌∙◌, arith}
 use Rattle.std.proofs.lemmas.List.{length_push}
+use Rattle.si_defs.specs.Entries.{entries}
 use Rattle.si_defs.specs.declared.TheConstants.{MOST_OCCURRENCES}
 use Rattle.si_term.specs.Meaning.{clause_of}
 use Rattle.si_term.specs.Walks.{entries_alone}
-use Rattle.si_term.proofs.Alone.{length-entries}
+use Rattle.si_term.proofs.Alone.{clause_few, length-entries}
 use Rattle.si_forest.specs.Pairs.{two_of}
 use Rattle.si_forest.specs.Locations.{location}
 use Rattle.si_forest.proofs.UnderwayLaws.{underway_start, room_next, may_next, next_in, all_in, few_in, change_in, located_in, change_still, located_still}
@@ -22,12 +23,13 @@ pub returns-in_err-literal-clause-located : goal.returns-in_err-literal-clause-l
 returns-in_err-literal-clause-located g c = located_in _ _ _ _ _ _ _ c.loop-entries.invariant.0 c.requires.may.new_key
 
 pub returns-in_err-literal-clause-few : goal.returns-in_err-literal-clause-few
-returns-in_err-literal-clause-few g c = few_in _ _ _ _ _ _ _ c.loop-entries.invariant.0 (clause_of c.args.clause.now) refl c.requires.may.sound
+returns-in_err-literal-clause-few g c = few_in _ _ _ _ _ _ _ c.loop-entries.invariant.0 (clause_of c.args.clause.now) refl
 
 pub overflow_cast-posting : goal.overflow_cast-posting
 overflow_cast-posting g c =
-    let few : length c.loop-entries.locations.items ≤ MOST_OCCURRENCES = few_in _ _ _ _ _ _ _ c.loop-entries.invariant.0 (clause_of c.args.clause.now) refl c.requires.may.sound in
-    omega (arith, c.len.ensures)
+    let few = few_in _ _ _ _ _ _ _ c.loop-entries.invariant.0 (clause_of c.args.clause.now) refl in
+    let bound : length (entries (clause_of c.args.clause.now)) ≤ MOST_OCCURRENCES = clause_few (clause_of c.args.clause.now) c.requires.may.sound in
+    omega (arith, few, c.len.ensures)
 
 pub place-requires-clause-may : goal.place-requires-clause-may
 place-requires-clause-may g c =
@@ -40,7 +42,7 @@ pub returns-in_err-location-clause-located : goal.returns-in_err-location-clause
 returns-in_err-location-clause-located g c = located_still _ _ _ _ _ _ _ c.loop-entries.invariant.0 (two_of c.place.new.self) c.in_err-location.ensures.err c.requires.may.new_key
 
 pub returns-in_err-location-clause-few : goal.returns-in_err-location-clause-few
-returns-in_err-location-clause-few g c = few_in _ _ _ _ _ _ _ c.loop-entries.invariant.0 (clause_of c.args.clause.now) refl c.requires.may.sound
+returns-in_err-location-clause-few g c = few_in _ _ _ _ _ _ _ c.loop-entries.invariant.0 (clause_of c.args.clause.now) refl
 
 pub push_reserved-requires : goal.push_reserved-requires
 push_reserved-requires g c =
@@ -73,4 +75,4 @@ pub returns-clause-located : goal.returns-clause-located
 returns-clause-located g c = located_in _ _ _ _ _ _ _ c.loop-entries.invariant.0 c.requires.may.new_key
 
 pub returns-clause-few : goal.returns-clause-few
-returns-clause-few g c = few_in _ _ _ _ _ _ _ c.loop-entries.invariant.0 (clause_of c.args.clause.now) refl c.requires.may.sound
+returns-clause-few g c = few_in _ _ _ _ _ _ _ c.loop-entries.invariant.0 (clause_of c.args.clause.now) refl

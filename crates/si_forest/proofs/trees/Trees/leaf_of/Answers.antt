@@ -4,20 +4,20 @@ use Rattle.si_legal.specs.Trees.{StandsIn}
 use Rattle.si_legal.specs.StoredSets.{IsUnder}
 use Rattle.si_held.specs.TwoTrees.{tree_for}
 use Rattle.si_forest.specs.Kept.{trees_of}
-use Rattle.si_forest.specs.Notes.{row_of}
+use Rattle.si_forest.specs.Notes.{notes_of}
 use Rattle.si_forest.proofs.PlaceLaws.{is_inside, noted_leaf}
 use Rattle.si_forest.proofs.trees.Trees.leaf_of.Goals as goal
 
-pub bounds-row-posting : goal.bounds-row-posting
-bounds-row-posting c =
-    is_inside (row_of c.self.inside.notes) (trees_of c.self.inside) c.args.literal c.args.posting c.self.invariant.noted
+pub bounds-get-posting : goal.bounds-get-posting
+bounds-get-posting c =
+    is_inside (notes_of c.self.inside.notes) (trees_of c.self.inside) c.args.literal c.args.posting c.self.invariant.noted
     (subst (λ trees. (t : Term) × IsUnder (tree_for c.args.literal trees) t c.args.posting) (sym c.self.view_is) c.requires)
-    c.row.result.now c.row.ensures
+    c.get.result.now c.get.ensures
 
 pub returns : goal.returns
 returns c =
     subst (λ trees. (t : Term) × StandsIn (tree_for c.args.literal trees) c.leaf.result t c.args.posting) c.self.view_is
     (subst (λ n. (t : Term) × StandsIn (tree_for c.args.literal (trees_of c.self.inside)) n t c.args.posting) (sym c.leaf.ensures)
-    (noted_leaf (row_of c.self.inside.notes) (trees_of c.self.inside) c.args.literal c.args.posting c.self.invariant.noted
+    (noted_leaf (notes_of c.self.inside.notes) (trees_of c.self.inside) c.args.literal c.args.posting c.self.invariant.noted
     (subst (λ trees. (t : Term) × IsUnder (tree_for c.args.literal trees) t c.args.posting) (sym c.self.view_is) c.requires)
-    c.row.result.now c.row.ensures c.index-row-posting.result c.index-row-posting.is))
+    c.get.result.now c.get.ensures c.index-get-posting.result c.index-get-posting.is))

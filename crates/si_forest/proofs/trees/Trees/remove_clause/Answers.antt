@@ -1,7 +1,7 @@
 use Rattle.std.proofs.Common.{[], subst, arith}
 use Rattle.si_held.specs.TwoTrees.{RemovesClause}
 use Rattle.si_forest.specs.Kept.{trees_of}
-use Rattle.si_forest.specs.Notes.{row_of}
+use Rattle.si_forest.specs.Notes.{notes_of}
 use Rattle.si_forest.specs.Pairs.{two_of}
 use Rattle.si_forest.proofs.ChangeLaws.{removes, none_located, noted_set}
 use Rattle.si_forest.proofs.trees.Trees.remove_clause.Goals as goal
@@ -11,8 +11,8 @@ invariant_of-self c =
     let new = two_of c.remove_clause.new.self in
     record {
       legal = c.remove_clause.ensures.change.legal;
-      rows = c.clear.ensures.rows;
-      noted = noted_set c.args.key [] (row_of c.self.inside.notes) (row_of c.clear.new.self) (trees_of c.self.inside) new c.self.invariant.noted c.remove_clause.ensures.change (none_located c.args.key new c.remove_clause.ensures.gone) (omega arith) c.clear.ensures.none.here c.clear.ensures.none.others;
+      spans = c.clear.ensures.spans;
+      noted = noted_set c.args.key [] (notes_of c.self.inside.notes) (notes_of c.clear.new.self) (trees_of c.self.inside) new c.self.invariant.noted c.remove_clause.ensures.change (none_located c.args.key new c.remove_clause.ensures.gone) (omega arith) c.clear.ensures.none.here c.clear.ensures.none.others;
     }
 
 pub returns-clause-removes : goal.returns-clause-removes

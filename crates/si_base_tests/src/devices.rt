@@ -6,6 +6,7 @@ use si_io::{
 use std::alloc::{AllocError, Global};
 use std::cell::Cell;
 use std::io::{Read, Write};
+use std::process::Abort;
 use std::test::Fail;
 use std::{fs, io};
 
@@ -34,9 +35,24 @@ impl Read for Letters {
     }
 }
 
-/// Reads once, through the bound.
-fn read_from<S: Source>(source: &mut S, into: &mut [u8]) -> Result<usize, Failed> {
-    source.read(into)
+/// Reads once, and looks at the answer.
+fn assert_read<S: Source>(
+    rt: &impl Abort,
+    source: &mut S,
+    into: &mut [u8],
+    due: Result<usize, Failed>,
+) {
+    assert_eq!(rt; source.read(into), due);
+}
+
+fn assert_letters<S: Source>(rt: &impl Abort, source: &mut S, into: &mut [u8; 2]) {
+    assert_read(rt, source, into, Ok(1));
+    assert_read(rt, source, into, Err(Failed));
+    assert_eq!(rt; into.as_slice(), b"b-".as_slice());
+    assert_read(rt, source, &mut into[1..], Ok(1));
+    assert_eq!(rt; into.as_slice(), b"be".as_slice());
+    assert_read(rt, source, into, Ok(1));
+    assert_read(rt, source, into, Ok(0));
 }
 
 #[test]
@@ -46,15 +62,8 @@ fn a_real_source_fails_once_is_interrupted_and_goes_on(rt: HostRuntime) {
         fails_at: 2,
         interrupted_at: 3,
     };
-    let mut source = RealSource::new(&mut letters);
     let mut into = [b'-'; 2];
-    assert_eq!(rt; source.read(&mut into), Ok(1));
-    assert_eq!(rt; read_from(&mut source, &mut into), Err(Failed));
-    assert_eq!(rt; into.as_slice(), b"b-".as_slice());
-    assert_eq!(rt; source.read(&mut into[1..]), Ok(1));
-    assert_eq!(rt; into.as_slice(), b"be".as_slice());
-    assert_eq!(rt; source.read(&mut into), Ok(1));
-    assert_eq!(rt; source.read(&mut into), Ok(0));
+    assert_letters(&rt, &mut RealSource::new(&mut letters), &mut into);
     assert_eq!(rt; letters.calls, 6);
 }
 
@@ -108,73 +117,131 @@ impl Write for Page {
     }
 }
 
+/// Writes each text, and looks at whether it was written.
+fn assert_written<K: Sink>(rt: &impl Abort, sink: &mut K, rows: &[(&[u8], bool)]) {
+    for (text, is_written) in rows {
+        assert_eq!(rt; write_all(sink, text).is_ok(), *is_written);
+    }
+}
+
+/// What stands on a page, and how it was asked.
+fn assert_page(rt: &impl Abort, page: &Page, text: &[u8], asked: &[u8]) {
+    assert_eq!(rt; page.text.as_slice(), text);
+    assert_eq!(rt; page.asked.as_slice(), asked);
+}
+
+const LINES: [(&[u8], bool); 2] = [(b"ab", true), (b"cd\n", true)];
+
+const REST: [(&[u8], bool); 2] = [(b"\n", true), (b"", true)];
+
+fn flush_lines<K: Sink>(rt: &impl Abort, sink: &mut K) {
+    assert_written(rt, sink, &LINES);
+    // Three of four bytes are taken, and what is left is the caller's.
+    assert_eq!(rt; sink.write(b"e\nf\n"), Ok(3));
+    assert_written(rt, sink, &REST);
+}
+
+fn assert_flushed(rt: &impl Abort, page: &mut Page) {
+    flush_lines(rt, &mut RealSink::new(&mut *page));
+    assert_page(rt, page, b"abcd\ne\nf\n", b"wwfwwf");
+}
+
 #[test]
 fn a_real_sink_flushes_at_the_end_of_a_line(rt: HostRuntime) {
     let mut page = Page::new(rt.alloc(), 0, 0);
-    let mut sink = RealSink::new(&mut page);
-    assert_eq!(rt; write_all(&mut sink, b"ab"), Ok(()));
-    assert_eq!(rt; write_all(&mut sink, b"cd\n"), Ok(()));
-    // Three of four bytes are taken, and what is left is the caller's.
-    assert_eq!(rt; sink.write(b"e\nf\n"), Ok(3));
-    assert_eq!(rt; write_all(&mut sink, b"\n"), Ok(()));
-    assert_eq!(rt; write_all(&mut sink, b""), Ok(()));
-    assert_eq!(rt; page.text.as_slice(), b"abcd\ne\nf\n".as_slice());
-    assert_eq!(rt; page.asked.as_slice(), b"wwfwwf".as_slice());
+    assert_flushed(&rt, &mut page);
+}
+
+/// At first the second piece of three bytes is refused, then the flush after the bytes. Last the
+/// page is full, and takes nothing.
+const FAILURES: [(&[u8], bool); 4] = [
+    (b"abcde", false),
+    (b"d\n", false),
+    (b"efgh\n", true),
+    (b"i", false),
+];
+
+fn assert_handed_on(rt: &impl Abort, page: &mut Page) {
+    assert_written(rt, &mut RealSink::new(&mut *page), &FAILURES);
+    assert_page(rt, page, b"abcd\nefgh\n", b"wwwfwwfw");
 }
 
 #[test]
 fn a_real_sink_hands_on_each_failure(rt: HostRuntime) {
     let mut page = Page::new(rt.alloc(), 2, 1);
-    let mut sink = RealSink::new(&mut page);
-    // The second piece of three bytes is refused.
-    assert_eq!(rt; write_all(&mut sink, b"abcde"), Err(Failed));
-    // The bytes go out, and the flush is refused.
-    assert_eq!(rt; write_all(&mut sink, b"d\n"), Err(Failed));
-    assert_eq!(rt; write_all(&mut sink, b"efgh\n"), Ok(()));
-    // Full: nothing is taken.
-    assert_eq!(rt; write_all(&mut sink, b"i"), Err(Failed));
-    assert_eq!(rt; page.text.as_slice(), b"abcd\nefgh\n".as_slice());
-    assert_eq!(rt; page.asked.as_slice(), b"wwwfwwfw".as_slice());
+    assert_handed_on(&rt, &mut page);
 }
 
-/// What a fetch answers, and what it leaves in place of other bytes.
-fn fetch<L: Library>(
+/// A name, a limit, what a fetch answers, and what it leaves in place of other bytes.
+type Fetch<'a> = (&'a [u8], usize, Fetched, &'a [u8]);
+
+fn assert_fetched<L: Library>(
+    rt: &impl Abort,
+    library: &mut L,
+    into: &mut Vec<u8>,
+    row: &Fetch<'_>,
+) {
+    let (name, limit, due, bytes) = *row;
+    let answer = library.fetch(name, into, limit);
+    assert_eq!(rt; answer, due, "limit {limit}");
+    assert!(rt; into.as_slice() == bytes, "limit {limit}");
+}
+
+fn assert_row<L: Library>(
+    rt: &impl Abort,
     alloc: Global,
     library: &mut L,
-    name: &[u8],
-    limit: usize,
-) -> Result<(Fetched, Vec<u8>), AllocError> {
+    row: &Fetch<'_>,
+) -> Result<(), AllocError> {
     let mut into = b"old".to_vec(alloc)?;
-    let answer = library.fetch(name, &mut into, limit);
-    Ok((answer, into))
+    assert_fetched(rt, library, &mut into, row);
+    Ok(())
 }
 
-#[test]
-fn a_real_library_opens_paths(rt: HostRuntime) -> Result<(), Fail> {
-    let alloc = rt.alloc();
-    let long = vec![in alloc; b'x'; 40000]?;
-    let far = "axioms/a-file-of-axioms-with-a-name-of-more-than-sixty-four-letters.ax";
-    fs::create_dir(&rt, "axioms")?;
-    fs::write(&rt, far, "far")?;
-    fs::write(&rt, "axioms/short.ax", "abc")?;
-    fs::write(&rt, "axioms/long.ax", long.as_slice())?;
-    let mut library = RealLibrary::new(rt);
-    let rows: [(&[u8], usize, Fetched, &[u8]); 9] = [
-        (far.as_bytes(), 3, Fetched::Found, b"far"),
+fn assert_rows<L: Library>(
+    rt: &impl Abort,
+    alloc: Global,
+    library: &mut L,
+    rows: &[Fetch<'_>],
+) -> Result<(), AllocError> {
+    for row in rows {
+        assert_row(rt, alloc, library, row)?;
+    }
+    Ok(())
+}
+
+/// A path that is longer than most.
+const FAR: &str = "axioms/a-file-of-axioms-with-a-name-of-more-than-sixty-four-letters.ax";
+
+fn assert_opened<L: Library>(
+    rt: &impl Abort,
+    alloc: Global,
+    library: &mut L,
+    long: &[u8],
+) -> Result<(), AllocError> {
+    let rows: [Fetch<'_>; 9] = [
+        (FAR.as_bytes(), 3, Fetched::Found, b"far"),
         (b"axioms/short.ax", 3, Fetched::Found, b"abc"),
         (b"axioms/short.ax", 2, Fetched::TooBig, b""),
         (b"axioms/none.ax", 9, Fetched::Missing, b""),
         (b"axioms", 9, Fetched::Failed, b""),
         (b"\xff", 9, Fetched::Failed, b""),
-        (b"axioms/long.ax", 40000, Fetched::Found, &long),
+        (b"axioms/long.ax", 40000, Fetched::Found, long),
         (b"axioms/long.ax", 39999, Fetched::TooBig, b""),
         (b"axioms/short.ax", usize::MAX, Fetched::Found, b"abc"),
     ];
-    for (name, limit, answer, bytes) in rows {
-        let (got, left) = fetch(alloc, &mut library, name, limit)?;
-        assert_eq!(rt; got, answer, "limit {limit}");
-        assert!(rt; left.as_slice() == bytes, "limit {limit}");
-    }
+    assert_rows(rt, alloc, library, &rows)
+}
+
+#[test]
+fn a_real_library_opens_paths(rt: HostRuntime) -> Result<(), Fail> {
+    fs::create_dir(&rt, "axioms")?;
+    fs::write(&rt, FAR, "far")?;
+    fs::write(&rt, "axioms/short.ax", "abc")?;
+    let long = vec![in rt.alloc(); b'x'; 40000]?;
+    fs::write(&rt, "axioms/long.ax", long.as_slice())?;
+    let mut library = RealLibrary::new(rt);
+    assert_opened(&rt, rt.alloc(), &mut library, &long)?;
     Ok(())
 }
 
@@ -229,33 +296,45 @@ impl<'a> Disk for Shelf<'a> {
     }
 }
 
+fn answer_of<L: Library>(alloc: Global, library: &mut L, name: &[u8], limit: usize) -> Fetched {
+    let mut into = Vec::new(alloc);
+    library.fetch(name, &mut into, limit)
+}
+
+/// A name, a limit, the read that fails, the answer, and how often was opened and read.
+type Call<'a> = (&'a [u8], usize, u32, Fetched, (u32, u32));
+
+fn assert_calls(rt: &impl Abort, alloc: Global, row: &Call<'_>) {
+    let (name, limit, fails_at, due, calls) = *row;
+    let opens = Cell::new(0);
+    let reads = Cell::new(0);
+    let mut library = RealLibrary::over(Shelf {
+        opens: &opens,
+        reads: &reads,
+        fails_at,
+    });
+    let answer = answer_of(alloc, &mut library, name, limit);
+    assert_eq!(rt; answer, due, "limit {limit}, {fails_at}");
+    assert_eq!(rt;
+        (opens.get(), reads.get()),
+        calls,
+        "limit {limit}, {fails_at}"
+    );
+}
+
+const CALLS: [Call<'static>; 7] = [
+    (b"a", 9, 0, Fetched::Found, (1, 4)),
+    (b"a", 8, 0, Fetched::TooBig, (1, 3)),
+    (b"a", 9, 1, Fetched::Failed, (1, 1)),
+    (b"a", 9, 3, Fetched::Failed, (1, 3)),
+    (b"b", 9, 0, Fetched::Missing, (1, 0)),
+    (b"c", 9, 0, Fetched::Failed, (1, 0)),
+    (b"a\xff", 9, 0, Fetched::Failed, (0, 0)),
+];
+
 #[test]
-fn a_real_library_makes_each_call_once(rt: HostRuntime) -> Result<(), Fail> {
-    let alloc = rt.alloc();
-    let rows: [(&[u8], usize, u32, Fetched, (u32, u32)); 7] = [
-        (b"a", 9, 0, Fetched::Found, (1, 4)),
-        (b"a", 8, 0, Fetched::TooBig, (1, 3)),
-        (b"a", 9, 1, Fetched::Failed, (1, 1)),
-        (b"a", 9, 3, Fetched::Failed, (1, 3)),
-        (b"b", 9, 0, Fetched::Missing, (1, 0)),
-        (b"c", 9, 0, Fetched::Failed, (1, 0)),
-        (b"a\xff", 9, 0, Fetched::Failed, (0, 0)),
-    ];
-    for (name, limit, fails_at, answer, calls) in rows {
-        let opens = Cell::new(0);
-        let reads = Cell::new(0);
-        let mut library = RealLibrary::over(Shelf {
-            opens: &opens,
-            reads: &reads,
-            fails_at,
-        });
-        let (got, _) = fetch(alloc, &mut library, name, limit)?;
-        assert_eq!(rt; got, answer, "limit {limit}, {fails_at}");
-        assert_eq!(rt;
-            (opens.get(), reads.get()),
-            calls,
-            "limit {limit}, {fails_at}"
-        );
+fn a_real_library_makes_each_call_once(rt: HostRuntime) {
+    for row in &CALLS {
+        assert_calls(&rt, rt.alloc(), row);
     }
-    Ok(())
 }

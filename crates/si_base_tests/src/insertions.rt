@@ -2,6 +2,7 @@
 // term comes again, and after a join the indicators can be numbered from 1 anew.
 ghost use Rattle.std.specs.Prelude.{IfOk, OnOk};
 ghost use Rattle.si_legal.specs.Legal.{IsLegal};
+ghost use Rattle.si_tree.specs.NewTrees.{IsRootAlone};
 ghost use Rattle.si_insert.specs.Inserting.{Inserts, MayInsert};
 
 use crate::generalizations::{A, B, C, G};
@@ -10,6 +11,7 @@ use si_insert::insert;
 use si_prune::remove;
 use si_tree::{NodeId, Posting, Tree};
 use std::alloc::{AllocError, Global};
+use std::process::Abort;
 use std::test::Fail;
 
 const FIRST: Posting = Posting {
@@ -32,6 +34,23 @@ const FOURTH: Posting = Posting {
     entry: 0,
 };
 
+// Puts a posting under a term.
+fn put_term(
+    alloc: Global,
+    tree: &mut Tree,
+    term: &Flat,
+    posting: Posting,
+) -> Result<NodeId, AllocError>
+    requires { MayInsert tree.old term.now posting }
+    ensures ok { IfOk result (λ leaf. Inserts tree.old tree.new term.now posting leaf) }
+    ensures legal { OnOk result (IsLegal tree.new) }
+{
+    let leaf = insert(alloc, tree, term, posting)?;
+    // So it is known that the tree is legal still.
+    tree.root();
+    Ok(leaf)
+}
+
 // Puts a posting under the term of these cells.
 fn put(
     alloc: Global,
@@ -44,10 +63,7 @@ fn put(
     ensures legal { OnOk result (IsLegal tree.new) }
 {
     let term = Flat::from_cells(alloc, cells)?;
-    let leaf = insert(alloc, tree, &term, posting)?;
-    // So it is known that the tree is legal still.
-    tree.root();
-    Ok(leaf)
+    put_term(alloc, tree, &term, posting)
 }
 
 // The numbers of nodes, of leaves, and of those without a posting, and the number above all
@@ -57,25 +73,31 @@ fn shape_of(tree: &Tree) -> (u64, u64, u64, u32) {
     (counts.nodes, counts.leaves, counts.unmerged, tree.next())
 }
 
-#[test]
-fn leaf_serves_again(rt: HostRuntime) -> Result<(), Fail> {
-    let alloc = rt.alloc();
-    let mut tree = Tree::new(alloc)?;
-    put(alloc, &mut tree, &[G, A], FIRST)?;
-    assert_eq!(rt; shape_of(&tree), (2, 1, 0, 1));
-    let leaf = put(alloc, &mut tree, &[G, B], SECOND)?;
-    assert_eq!(rt; shape_of(&tree), (4, 2, 0, 2));
+fn assert_serves(rt: &impl Abort, alloc: Global, tree: &mut Tree) -> Result<(), AllocError>
+    requires { IsRootAlone tree.old }
+{
+    put(alloc, tree, &[G, A], FIRST)?;
+    assert_eq!(rt; shape_of(tree), (2, 1, 0, 1));
+    let leaf = put(alloc, tree, &[G, B], SECOND)?;
+    assert_eq!(rt; shape_of(tree), (4, 2, 0, 2));
     // The leaf stays, as it does after a removal that found no memory for its join.
     tree.drop_posting(leaf, SECOND);
     tree.root();
-    put(alloc, &mut tree, &[C], THIRD)?;
-    assert_eq!(rt; shape_of(&tree), (5, 3, 1, 2));
-    let again = put(alloc, &mut tree, &[G, B], FOURTH)?;
+    put(alloc, tree, &[C], THIRD)?;
+    assert_eq!(rt; shape_of(tree), (5, 3, 1, 2));
+    let again = put(alloc, tree, &[G, B], FOURTH)?;
     assert_eq!(rt; again, leaf);
-    assert_eq!(rt; shape_of(&tree), (5, 3, 0, 2));
-    remove(alloc, &mut tree, again, FOURTH);
-    assert_eq!(rt; shape_of(&tree), (3, 2, 0, 2));
+    assert_eq!(rt; shape_of(tree), (5, 3, 0, 2));
+    remove(alloc, tree, again, FOURTH);
+    assert_eq!(rt; shape_of(tree), (3, 2, 0, 2));
     tree.renumber()?;
-    assert_eq!(rt; shape_of(&tree), (3, 2, 0, 1));
+    assert_eq!(rt; shape_of(tree), (3, 2, 0, 1));
+    Ok(())
+}
+
+#[test]
+fn leaf_serves_again(rt: HostRuntime) -> Result<(), Fail> {
+    let mut tree = Tree::new(rt.alloc())?;
+    assert_serves(&rt, rt.alloc(), &mut tree)?;
     Ok(())
 }

@@ -5,16 +5,21 @@ use std::alloc::{AllocError, Global};
 use std::process::Abort;
 use std::test::Fail;
 
+fn put_kept(is_subset: bool, mask: &Row, rows: &[Row], out: &mut Vec<u32>) -> Result<(), AllocError>
+    requires { length rows.now < 100 }
+{
+    if is_subset {
+        return subset_rows(mask, rows, out);
+    }
+    superset_rows(mask, rows, out)
+}
+
 /// The positions that a kernel appends to a list that holds 9.
 fn kept(alloc: Global, is_subset: bool, mask: &Row, rows: &[Row]) -> Result<Vec<u32>, AllocError>
     requires { length rows.now < 100 }
 {
     let mut out = vec![in alloc; 9]?;
-    if is_subset {
-        subset_rows(mask, rows, &mut out)?;
-    } else {
-        superset_rows(mask, rows, &mut out)?;
-    }
+    put_kept(is_subset, mask, rows, &mut out)?;
     Ok(out)
 }
 

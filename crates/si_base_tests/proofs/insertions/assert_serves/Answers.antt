@@ -3,7 +3,7 @@ use Rattle.si_legal.specs.declared.Posting.{Posting}
 use Rattle.si_legal.specs.Legal.{IsLeafTerm}
 use Rattle.si_base_tests.proofs.Vectors.{constant, a, b, c, g}
 use Rattle.si_base_tests.proofs.Postings.{none_stored, dropped, inserted, stands_in, may_insert, has_posting}
-use Rattle.si_base_tests.proofs.insertions.leaf_serves_again.Goals as goal
+use Rattle.si_base_tests.proofs.insertions.assert_serves.Goals as goal
 
 abbrev first : Posting
 first = record { clause = 0; entry = 0 }
@@ -24,12 +24,12 @@ g_leaf : (n : ℕ) → IsLeafTerm (g (constant n))
 g_leaf n = record { sound = (refl, ((refl, tt), tt)); numbered = (0, refl); size = omega arith }
 
 pub put-requires : goal.put-requires
-put-requires h k = may_insert _ _ (g a) first refl (g_leaf 6) (none_stored _ k.in_ok-tree.ensures)
+put-requires h k = may_insert _ _ (g a) first refl (g_leaf 6) (none_stored _ k.requires)
 
 pub put-requires-2 : goal.put-requires-2
 put-requires-2 h k =
     may_insert _ _ (g b) second refl (g_leaf 8)
-    (inserted _ _ _ (g a) first _ refl (g_leaf 6) k.in_ok-put.ensures.ok k.in_ok-put.ensures.legal (none_stored _ k.in_ok-tree.ensures))
+    (inserted _ _ _ (g a) first _ refl (g_leaf 6) k.in_ok-put.ensures.ok k.in_ok-put.ensures.legal (none_stored _ k.requires))
 
 pub drop_posting-requires : goal.drop_posting-requires
 drop_posting-requires h k =
@@ -37,14 +37,14 @@ drop_posting-requires h k =
 
 pub put-requires-3 : goal.put-requires-3
 put-requires-3 h k =
-    let one = inserted _ _ _ (g a) first _ refl (g_leaf 6) k.in_ok-put.ensures.ok k.in_ok-put.ensures.legal (none_stored _ k.in_ok-tree.ensures) in
+    let one = inserted _ _ _ (g a) first _ refl (g_leaf 6) k.in_ok-put.ensures.ok k.in_ok-put.ensures.legal (none_stored _ k.requires) in
     let two = inserted _ _ _ (g b) second _ refl (g_leaf 8) k.in_ok-leaf.ensures.ok k.in_ok-leaf.ensures.legal one in
     may_insert _ _ c third refl (constant_leaf 10)
     (dropped _ _ _ (g b) second 2 k.root.ensures.legal two (stands_in _ _ _ (g b) second _ refl (g_leaf 8) k.in_ok-leaf.ensures.ok) k.drop_posting.ensures)
 
 pub put-requires-4 : goal.put-requires-4
 put-requires-4 h k =
-    let one = inserted _ _ _ (g a) first _ refl (g_leaf 6) k.in_ok-put.ensures.ok k.in_ok-put.ensures.legal (none_stored _ k.in_ok-tree.ensures) in
+    let one = inserted _ _ _ (g a) first _ refl (g_leaf 6) k.in_ok-put.ensures.ok k.in_ok-put.ensures.legal (none_stored _ k.requires) in
     let two = inserted _ _ _ (g b) second _ refl (g_leaf 8) k.in_ok-leaf.ensures.ok k.in_ok-leaf.ensures.legal one in
     let left = dropped _ _ _ (g b) second 2 k.root.ensures.legal two (stands_in _ _ _ (g b) second _ refl (g_leaf 8) k.in_ok-leaf.ensures.ok) k.drop_posting.ensures in
     may_insert _ _ (g b) fourth refl (g_leaf 8)

@@ -1,7 +1,8 @@
 // A query's term whose cells are written one after the other.
-ghost use Rattle.std.specs.Prelude.{◌≡◌, ◌<◌, ◌≤◌, ◌-◌, ◌^◌, IfOk, IfSome, OnOk, length};
+ghost use Rattle.std.specs.Prelude.{◌≡◌, ◌<◌, ◌≤◌, ◌-◌, ◌^◌, ℕ, IfNone, IfOk, IfSome, OnOk, length};
 ghost use Rattle.si_defs.specs.Symbols.{Numbering};
 ghost use Rattle.si_defs.specs.Clauses.{IsSoundPattern, Pattern};
+ghost use Rattle.si_defs.specs.Substitutions.{IsAmong};
 ghost use Rattle.si_defs.specs.Terms as terms;
 ghost use Rattle.si_defs.specs.declared.TheConstants.{MOST_OCCURRENCES};
 ghost use Rattle.si_term.specs.Terms.{symbol_of};
@@ -87,8 +88,10 @@ impl<'a> QueryWriter<'a> {
     ) -> Option<()>
         requires inside { gap < length self.old.cells }
         requires short { length self.old.cells - gap < 2 ^ 32 }
-        ensures { IfSome result (λ _. PutsSymbol (T.pairs table.now) (symbol_of symbol.now) positive
-            gap self.old self.new) }
+        ensures put { IfSome result (λ _. PutsSymbol (T.pairs table.now) (symbol_of symbol.now)
+            positive gap self.old self.new) }
+        ensures lacks { IfNone result ((n : ℕ)
+            → IsAmong (T.pairs table.now) (symbol_of symbol.now, n) → ⊥) }
     {
         let number = table.id_of(symbol)?;
         let signed = with_sign(number, positive, symbol.side);

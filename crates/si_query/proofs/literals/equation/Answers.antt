@@ -41,7 +41,7 @@ returns g c =
     let pairs = g.T.SymTable.pairs c.args.table.now in
     let h = found _ c.in_ok-after.ensures c.in-Some.is in
     let k = found _ c.in_ok-rest.ensures c.in-Some-2.is in
-    let put = found _ c.close.ensures c.in-Some-close.is in
+    let put = found _ c.close.ensures.put c.in-Some-close.is in
     let p = c.is_positive.result in
     record {
       atom = equation h.term k.term;

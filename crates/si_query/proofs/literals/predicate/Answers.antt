@@ -15,7 +15,7 @@ pub returns : goal.returns
 returns g c =
     let pairs = g.T.SymTable.pairs c.args.table.now in
     let h = found _ c.in_ok-arity.ensures c.in-Some-2.is in
-    let put = found _ c.close.ensures c.in-Some-close.is in
+    let put = found _ c.close.ensures.put c.in-Some-close.is in
     predicate_read pairs c.args.tokens.now c.args.writer.now c.close.new.self c.in-Some.kind c.in-Some-2.arity c.args.positive c.in-Some-2.rest.now c.sign.result c.in-len1-up.len_at_least c.in-Some.ensures h c.sign.ensures
     (no_sign c.sign.result (sym c.is_some.ensures ∙ c.if-is_some.false))
     (closed_predicate pairs _ c.args.writer.now c.open.new.self c.applied.new.writer c.close.new.self c.in_ok-gap.ensures h.arguments _ _ c.args.positive

@@ -26,7 +26,7 @@ application-returns g t c =
     let d = c.close.new.self in
     let h = found _ c.in_ok-arity.ensures c.in-Some.is in
     let opened = c.in_ok-gap.ensures in
-    let put = found _ c.close.ensures c.in-Some-close.is in
+    let put = found _ c.close.ensures.put c.in-Some-close.is in
     let text = (token_of c.args.head.now).text in
     record {
       term = terms.app (function_symbol c.args.kind text c.in-Some.arity) h.arguments;

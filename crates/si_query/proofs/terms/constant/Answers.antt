@@ -16,7 +16,7 @@ returns g c =
     let b = c.open.new.self in
     let d = c.close.new.self in
     let opened = c.in_ok-gap.ensures in
-    let put = found _ c.close.ensures c.in-Some.is in
+    let put = found _ c.close.ensures.put c.in-Some.is in
     let text = (token_of c.args.token.now).text in
     record {
       left = refl;

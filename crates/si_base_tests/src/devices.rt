@@ -220,15 +220,15 @@ fn assert_opened<L: Library>(
     long: &[u8],
 ) -> Result<(), AllocError> {
     let rows: [Fetch<'_>; 9] = [
-        (FAR.as_bytes(), 3, Fetched::Found, b"far"),
-        (b"axioms/short.ax", 3, Fetched::Found, b"abc"),
+        (FAR.as_bytes(), 3, Fetched::File, b"far"),
+        (b"axioms/short.ax", 3, Fetched::File, b"abc"),
         (b"axioms/short.ax", 2, Fetched::TooBig, b""),
         (b"axioms/none.ax", 9, Fetched::Missing, b""),
         (b"axioms", 9, Fetched::Failed, b""),
         (b"\xff", 9, Fetched::Failed, b""),
-        (b"axioms/long.ax", 40000, Fetched::Found, long),
+        (b"axioms/long.ax", 40000, Fetched::File, long),
         (b"axioms/long.ax", 39999, Fetched::TooBig, b""),
-        (b"axioms/short.ax", usize::MAX, Fetched::Found, b"abc"),
+        (b"axioms/short.ax", usize::MAX, Fetched::File, b"abc"),
     ];
     assert_rows(rt, alloc, library, &rows)
 }
@@ -323,7 +323,7 @@ fn assert_calls(rt: &impl Abort, alloc: Global, row: &Call<'_>) {
 }
 
 const CALLS: [Call<'static>; 7] = [
-    (b"a", 9, 0, Fetched::Found, (1, 4)),
+    (b"a", 9, 0, Fetched::File, (1, 4)),
     (b"a", 8, 0, Fetched::TooBig, (1, 3)),
     (b"a", 9, 1, Fetched::Failed, (1, 1)),
     (b"a", 9, 3, Fetched::Failed, (1, 3)),

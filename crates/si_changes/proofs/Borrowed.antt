@@ -1,28 +1,10 @@
 -- Small laws of lists and of bindings.
-use Rattle.std.proofs.Common.{◌≡◌, ℕ, inl, inr, Bool, true, false, cond, ◌||◌, ◌==◌, List, [], ◌∷◌, refl, ap, ◌∙◌}
-use Rattle.std.specs.List.{list_any}
+use Rattle.std.proofs.Common.{◌≡◌, ℕ, inl, inr, Bool, true, false, cond, List, [], ◌∷◌, refl, ap, ◌∙◌}
 use Rattle.std.proofs.lemmas.Bool.Decides.{eqb_tells}
-use Rattle.std.proofs.lemmas.Bool.{eq-eqb}
 use Rattle.si_defs.specs.Substitutions.{image, IsAmong}
 use Rattle.si_flat.specs.Cells.{ind, same_variable, Term}
 use Rattle.si_flat.specs.Rows.{left_sides}
 use Rattle.si_legal.specs.Bindings.{Binding, indicator, substitution_of}
-
--- ---- occurrences
-pub occurs : (ns : List ℕ) (n : ℕ) → IsAmong ns n → list_any (λ m. m == n) ns ≡ true
-occurs [] n a = absurd a
-occurs (m ∷ ns) n (inl e) = ap (λ b. b || list_any (λ k. k == n) ns) (eq-eqb m n e)
-occurs (m ∷ ns) n (inr a) = ap (λ b. (m == n) || b) (occurs ns n a) ∙ or_true (m == n) where
-  or_true : (b : Bool) → (b || true) ≡ true
-  or_true true = refl
-  or_true false = refl
-
-pub occurs_not : (ns : List ℕ) (n : ℕ) → (IsAmong ns n → ⊥) → list_any (λ m. m == n) ns ≡ false
-occurs_not [] n h = refl
-occurs_not (m ∷ ns) n h = elim (eqb_tells m n) as (λ _. list_any (λ k. k == n) (m ∷ ns) ≡ false) [
-  | inl e ↦ absurd (h (inl e.1))
-  | inr e ↦ ap (λ b. b || list_any (λ k. k == n) ns) e.0 ∙ occurs_not ns n (λ a. h (inr a))
-]
 
 -- ---- choices by a test
 -- what holds of a choice by a test

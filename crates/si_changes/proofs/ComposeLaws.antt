@@ -11,10 +11,10 @@ use Rattle.si_flat.specs.Rows.{left_sides}
 use Rattle.si_flat.proofs.RowLaws.{distinct_append, distinct_parts}
 use Rattle.si_legal.specs.Bindings.{Binding, IsIndicator, indicators_among, indicators, right_indicators, substitution_of, applied, composed, HaveSamePairs}
 use Rattle.si_legal.proofs.Splitting.{indicators_all, indicators-more}
-use Rattle.si_legal.proofs.SplitLaws.{binding_left}
+use Rattle.si_legal.proofs.SplitLaws.{binding_left, occurs, occurs_not}
 use Rattle.si_changes.proofs.Permuted.{among_or_not}
 use Rattle.si_changes.proofs.HeadLaws.{image_keeps, image_bound, indicator_variable, substitute_twice}
-use Rattle.si_changes.proofs.Borrowed.{occurs, occurs_not, chosen, image_other, bound_left}
+use Rattle.si_changes.proofs.Borrowed.{chosen, image_other, bound_left}
 
 -- ---- two substitutions
 mutual

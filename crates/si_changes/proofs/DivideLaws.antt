@@ -9,7 +9,7 @@ use Rattle.std.proofs.lemmas.Option.{same_Some}
 use Rattle.si_defs.specs.Terms as terms
 use Rattle.si_defs.specs.Substitutions.{IsAmong, AreDistinct}
 use Rattle.si_defs.proofs.ListLaws.{all_at, all_from, among_front, among_back, among_parts, same_tail}
-use Rattle.si_defs.proofs.ListLaws.{same_head as equal_heads}
+use Rattle.si_defs.proofs.ListLaws.{same_first}
 use Rattle.si_flat.specs.Cells.{Variable, query, entry, ind, Term, Terms}
 use Rattle.si_flat.specs.Rows.{left_sides}
 use Rattle.si_flat.proofs.RowLaws.{distinct_append}
@@ -161,7 +161,7 @@ side_node (b ∷ node) (c ∷ new) s (inr a) = inr (side_node node new s a)
 pub side_new : (node new : List Binding) (s : Sides) → left_sides node ≡ left_sides new → IsAmong (sides node new) s → IsAmong new (s.left, s.new)
 side_new [] new s same a = absurd a
 side_new (b ∷ node) [] s same a = absurd a
-side_new (b ∷ node) (c ∷ new) s same (inl e) = inl (let first : c.0 ≡ s.left = sym (equal_heads same) ∙ ap (λ x. x.left) e in λ i. (first i, (e i).new))
+side_new (b ∷ node) (c ∷ new) s same (inl e) = inl (let first : c.0 ≡ s.left = sym (same_first same) ∙ ap (λ x. x.left) e in λ i. (first i, (e i).new))
 side_new (b ∷ node) (c ∷ new) s same (inr a) = inr (side_new node new s (same_tail same) a)
 
 pub sides_lefts : (node new : List Binding) → left_sides node ≡ left_sides new → lefts_of (sides node new) ≡ left_sides node

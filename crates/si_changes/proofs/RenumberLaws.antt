@@ -5,7 +5,7 @@ use Rattle.si_defs.specs.Terms as terms
 use Rattle.si_defs.specs.Substitutions.{IsAmong, AreDistinct}
 use Rattle.si_defs.specs.declared.TheConstants.{MOST_OCCURRENCES}
 use Rattle.si_defs.proofs.ListLaws.{all_at, all_from, among_front, among_back, same_tail}
-use Rattle.si_defs.proofs.ListLaws.{same_head as first_same}
+use Rattle.si_defs.proofs.ListLaws.{same_first}
 use Rattle.si_flat.specs.Cells.{Variable, query, entry, ind, same_variable, Term}
 use Rattle.si_flat.specs.Rows.{left_sides}
 use Rattle.si_flat.proofs.RowLaws.{distinct_append, distinct_parts}
@@ -31,7 +31,7 @@ use Rattle.si_changes.proofs.RenamedTerms.{TellsApart, among_map, map_among, tol
 -- ---- numbers in a row
 same_mapped : (f g : ℕ → ℕ) (ns : List ℕ) (n : ℕ) → map f ns ≡ map g ns → IsAmong ns n → f n ≡ g n
 same_mapped f g [] n e a = absurd a
-same_mapped f g (m ∷ ns) n e (inl p) = subst (λ k. f k ≡ g k) p (first_same e)
+same_mapped f g (m ∷ ns) n e (inl p) = subst (λ k. f k ≡ g k) p (same_first e)
 same_mapped f g (m ∷ ns) n e (inr a) = same_mapped f g ns n (same_tail e) a
 
 consecutive_high : (first count n : ℕ) → IsAmong (consecutive first count) n → first ≤ n

@@ -8,7 +8,7 @@ use Rattle.std.proofs.lemmas.Option.{same_Some}
 use Rattle.si_defs.specs.Terms as terms
 use Rattle.si_defs.specs.Substitutions.{IsAmong, AreDistinct}
 use Rattle.si_defs.proofs.ListLaws.{all_at, all_from, among_front, among_back, among_parts, same_tail}
-use Rattle.si_defs.proofs.ListLaws.{same_head as first_same}
+use Rattle.si_defs.proofs.ListLaws.{same_first}
 use Rattle.si_flat.specs.Cells.{Variable, ind, Term}
 use Rattle.si_flat.specs.Rows.{left_sides}
 use Rattle.si_flat.proofs.RowLaws.{distinct_append, distinct_parts}
@@ -255,7 +255,7 @@ module _ (old new : Tree Term) (key : ℕ) (parts : Parts) (others : List Bindin
       let from_key : from ≡ Some key = reached.0 ∙ ap Some e in
       let same : (key, node) ∷ upper ≡ step ∷ q = one_path old (Some key) ((key, node) ∷ upper) (step ∷ q) may.reached (subst (λ k. IsPath old k (step ∷ q)) from_key reached) in
       let tail : q ≡ upper = sym (same_tail same) in
-      let above : step.1.parent ≡ Some parent = sym (ap (λ x. x.1.parent) (first_same same)) ∙ below in
+      let above : step.1.parent ≡ Some parent = sym (ap (λ x. x.1.parent) (same_first same)) ∙ below in
       subst (λ k. Over k (step ∷ q)) (sym from_key)
       (subst (Over (Some key)) same (over_key (subst (Over (Some parent)) tail (subst (λ k. Over k q) above rest))))
 

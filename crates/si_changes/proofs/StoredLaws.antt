@@ -3,7 +3,7 @@ use Rattle.std.proofs.Common.{◌≡◌, ◌≢◌, ◌⊎◌, ◌↔◌, inl, i
 use Rattle.std.proofs.lemmas.Bool.Decides.{eqb_tells}
 use Rattle.std.proofs.lemmas.Option.{same_Some}
 use Rattle.si_defs.specs.declared.TheConstants.{MOST_OCCURRENCES}
-use Rattle.si_defs.proofs.ListLaws.{same_head as first_same}
+use Rattle.si_defs.proofs.ListLaws.{same_first}
 use Rattle.si_flat.specs.Cells.{Term}
 use Rattle.si_legal.specs.declared.Posting.{Posting}
 use Rattle.si_legal.specs.Trees.{Content, inner, leaf, Node, Tree, HasNode, Path, IsPath, path_term, IsLeaf, StandsIn}
@@ -36,7 +36,7 @@ pub one_leaf : (tree : Tree Term) (key : ℕ) (t u : Term) (ps qs : List Posting
 one_leaf tree key t u ps qs one two =
     let same = one_path tree (Some key) ((key, one.node) ∷ one.above) ((key, two.node) ∷ two.above) one.reached two.reached in (
       one.term ∙ ap path_term same ∙ sym two.term,
-      same_leaf ps qs (sym one.content ∙ ap (λ s. s.1.content) (first_same same) ∙ two.content),
+      same_leaf ps qs (sym one.content ∙ ap (λ s. s.1.content) (same_first same) ∙ two.content),
     )
 
 pub no_leaf_here : (tree : Tree Term) (key : ℕ) (node : Node Term) (split : ℕ) (children : List ℕ) (t : Term) (ps : List Posting) → HasNode tree key node → node.content ≡ inner split children → IsLeaf tree key t ps → ⊥

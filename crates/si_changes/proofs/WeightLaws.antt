@@ -1,10 +1,10 @@
 -- The weight of a term: its occurrences of symbols and variables that are no indicators. A path's
 -- term gets heavier with each node, and is no heavier than a term that it can become.
-use Rattle.std.proofs.Common.{◌≡◌, ℕ, ◌+◌, ◌<◌, ◌≤◌, inl, inr, List, [], ◌∷◌, refl, sym, ap, subst, arith}
+use Rattle.std.proofs.Common.{ℕ, ◌+◌, ◌<◌, ◌≤◌, inl, inr, List, ap, subst, arith}
 use Rattle.si_defs.specs.Terms as terms
 use Rattle.si_defs.specs.Substitutions.{IsAmong, image}
 use Rattle.si_defs.proofs.ListLaws.{among_parts}
-use Rattle.si_flat.specs.Cells.{Variable, query, entry, ind, same_variable, Term, Terms}
+use Rattle.si_flat.specs.Cells.{query, entry, ind, same_variable, Term, Terms}
 use Rattle.si_legal.specs.Bindings.{Binding, IsIndicator, indicators, applied, substitution_of}
 use Rattle.si_legal.proofs.Splitting.{indicators_all, indicators-more}
 use Rattle.si_changes.proofs.HeadLaws.{image_keeps}

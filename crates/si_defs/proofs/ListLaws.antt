@@ -114,8 +114,8 @@ module _ {X : Type 0} where
   set_other (y ∷ xs) (suc m) (suc n) x apart = set_other xs m n x (λ e. apart (ap suc e))
 
 -- ---- equal lists
-pub same_head : {X : Type 0} {x y : X} {xs ys : List X} → x ∷ xs ≡ y ∷ ys → x ≡ y
-same_head e = cc
+pub same_first : {X : Type 0} {x y : X} {xs ys : List X} → x ∷ xs ≡ y ∷ ys → x ≡ y
+same_first e = cc
 
 pub same_tail : {X : Type 0} {x y : X} {xs ys : List X} → x ∷ xs ≡ y ∷ ys → xs ≡ ys
 same_tail e = cc

@@ -10,19 +10,18 @@ pub data Entry : Type 0 where
   literal_entry : Literal → Entry
   term_entry : Term → Entry
 
--- the occurrences of variables in an entry
-abbrev pub entry_variables : Entry → List Bytes
-entry_variables (literal_entry l) = terms.variables l.atom
-entry_variables (term_entry t) = terms.variables t
+-- an entry's own term: the atom of a literal, or the term
+abbrev pub whole_of : Entry → Term
+whole_of (literal_entry l) = l.atom
+whole_of (term_entry t) = t
 
 -- the variables of an entry, each once, in the order of their first occurrence
 abbrev pub distinct_variables : Entry → List Bytes
-distinct_variables e = terms.firsts bytes_eq (entry_variables e)
+distinct_variables e = terms.firsts bytes_eq (terms.variables (whole_of e))
 
 -- the symbol at the head of an entry: of a literal's atom, or of a term
 abbrev pub entry_head : Entry → Option Symbol
-entry_head (literal_entry l) = terms.head l.atom
-entry_head (term_entry t) = terms.head t
+entry_head e = terms.head (whole_of e)
 
 -- the pattern as an entry
 abbrev pub pattern_entry : Pattern → Entry

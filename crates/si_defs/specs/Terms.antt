@@ -22,6 +22,11 @@ module _ {S V : Type 0} where
   list none = []
   list (more t ts) = t ∷ list ts
 
+  -- those of a term; a variable has none
+  abbrev pub arguments : Term S V → Terms S V
+  arguments (var x) = none
+  arguments (app s ts) = ts
+
   -- how many arguments
   abbrev pub count : Terms S V → ℕ
   count none = 0

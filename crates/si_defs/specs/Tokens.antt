@@ -2,7 +2,7 @@
 -- which marks there are, and that no other byte than a space to `~` stands in a quoted text, is
 -- this project's profile).
 use Rattle.std.specs.Prelude.{◌≡◌, ℕ, ◌≤◌, ◌⊎◌, Bool, false, ◌||◌, ◌&&◌, ◌==◌, cond, List, [], ◌∷◌, ◌++◌, length, IsTrue, IsFalse, flat_map, codes}
-use Rattle.std.specs.List.{list_all, list_any, AllByRecursion}
+use Rattle.std.specs.List.{list_all, list_any, AllByRecursion, concat}
 use Rattle.si_defs.specs.Bytes.{Bytes, is_white, is_printable, is_lower_word, is_upper_word, is_integer, is_dollar_word}
 use Rattle.si_defs.specs.declared.TokenKind.{TokenKind}
 use Rattle.si_defs.specs.declared.TokenKind.TheVariants.{Lower, Upper, Dollar, Int, Single, Double, NotEqual, Mark}
@@ -52,16 +52,11 @@ pub data IsBlank (text : Bytes) : Type 0 where
       → IsBlank text
   block_comment : IsBlockComment text → IsBlank text
 
--- texts one after the other
-abbrev pub joined : List Bytes → Bytes
-joined [] = []
-joined (text ∷ texts) = text ++ joined texts
-
 -- rest is what stands in the bytes after some blanks
 pub record Skips (bytes rest : Bytes) : Type 0 where
   pub blanks : List Bytes
   pub each : AllByRecursion IsBlank blanks
-  pub whole : bytes ≡ joined blanks ++ rest
+  pub whole : bytes ≡ concat blanks ++ rest
 
 -- the bytes are blanks up to their end, where a line comment needs no line feed
 pub record AreBlanks (bytes : Bytes) : Type 0 where

@@ -20,7 +20,7 @@ use Rattle.si_unify.proofs.Places.{variable_of-slot_of}
 use Rattle.si_unify.proofs.Searching.{ranks_below_cell}
 use Rattle.si_unify.proofs.Solutions.{solved_of_triangular}
 use Rattle.si_fit.proofs.EndLaws.{lent}
-use Rattle.si_changes.proofs.Borrowed.{occurs, occurs_not}
+use Rattle.si_legal.proofs.SplitLaws.{occurs, occurs_not}
 use Rattle.si_descend.specs.Subtrees.{EndsFree, AreEndsOf, IsClear, AreClear}
 use Rattle.si_descend.proofs.FreeLaws.{slot_below}
 

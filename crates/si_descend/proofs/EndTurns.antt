@@ -26,7 +26,7 @@ use Rattle.si_legal.specs.Bindings.{Binding, StandForBindings}
 use Rattle.si_legal.specs.Trees.{Content, inner, leaf, Node, Tree, HasNode, Path, IsPath, path_term}
 use Rattle.si_legal.specs.Legal.{IsLegal, IsOpenBelow, IsLegalContent}
 use Rattle.si_legal.proofs.PathLaws.{one_path}
-use Rattle.si_changes.proofs.Borrowed.{occurs, occurs_not}
+use Rattle.si_legal.proofs.SplitLaws.{occurs, occurs_not}
 use Rattle.si_changes.proofs.Frames.{legal_nodes}
 use Rattle.si_changes.proofs.HeadLaws.{indicator_variable}
 use Rattle.si_changes.proofs.Permuted.{among_or_not}
@@ -135,6 +135,11 @@ module _ (slots : Slots) (pairs : Pairs) where
     where
       no_some : (v : Bor (List Cell)) → Some v ≡ None → ⊥
       no_some v p = cc
+
+  pub other_clear : (ends : List ℕ) (n found : ℕ) → IsSlotOf pairs n found → ((m : ℕ) × (variable_of slots found ≡ entry m) → ⊥) → HasClearValue slots pairs ends n
+  other_clear ends n found is none slot m value e name =
+      let same = same_Some (slot, value) (found, is.0) (sym e ∙ is.1) in
+      absurd (none (m, ap (λ p. variable_of slots p.0) (sym same) ∙ name))
 
   pub clear_value : (ends : List ℕ) (n found : ℕ) (w : Bor (List Cell)) → HasDistinctSlots pairs → IsSlotOf pairs n found → Some w ≡ value_at pairs found → AllByRecursion (λ c. IsClear pairs ends (cell_slot slots c)) w.now → HasClearValue slots pairs ends n
   clear_value ends n found w distinct is bound clear slot m value e name =

@@ -1,5 +1,5 @@
 -- What becomes of the variables of an entry, binding by binding.
-use Rattle.std.proofs.Common.{◌≡◌, ◌≢◌, ◌↔◌, ◌⊎◌, inl, inr, ℕ, ◌+◌, ◌-◌, ◌<◌, ◌≤◌, zero, suc, Bool, true, false, IsTrue, List, [], ◌∷◌, ◌++◌, map, take, length, slice_get, get_or, refl, sym, ◌∙◌, ap, subst, arith, append-nil, Option, None, Some, is_some, is_none}
+use Rattle.std.proofs.Common.{◌≡◌, ◌≢◌, ◌↔◌, ◌⊎◌, inl, inr, ℕ, ◌+◌, ◌<◌, ◌≤◌, zero, suc, Bool, true, false, IsTrue, List, [], ◌∷◌, ◌++◌, map, take, length, slice_get, get_or, refl, sym, ◌∙◌, ap, subst, arith, append-nil, Option, None, Some, is_some, is_none}
 use Rattle.std.proofs.lemmas.Bool.Decides.{eqb_tells}
 use Rattle.std.proofs.lemmas.Option.{same_Some, slice_get-get_or}
 use Rattle.std.specs.Borrow.{Bor}
@@ -15,7 +15,7 @@ use Rattle.si_unify.specs.Solving.{Pairs, slot_of, variable_of, is_frozen, IsInR
 use Rattle.si_unify.specs.Spots.{cell_slot, IsUnbound}
 use Rattle.si_unify.proofs.Lists.{apart_from}
 use Rattle.si_unify.proofs.Places.{whole_at, first_cell, cell-at, inside, in_range-at}
-use Rattle.si_unify.proofs.Solutions.{lt_tells}
+use Rattle.si_unify.proofs.Solutions.{lt_tells, entry_slot, same_number}
 use Rattle.si_legal.specs.OpenNodes.{RenamesEntry}
 use Rattle.si_descend.specs.declared.variants.Became.TheVariants.{NoEntry, Variable as Same, Term as Other}
 use Rattle.si_fit.specs.Ends.{EndsAt}
@@ -70,43 +70,6 @@ one_place (p ∷ pairs) (suc i) (suc j) slot v w d e f = ap suc (one_place pairs
 slot_same : (a b : ℕ × Bor (List Cell)) → Some a ≡ Some b → a.0 ≡ b.0
 slot_same a b e = ap (λ p. p.0) (same_Some a b e)
 
--- and it has a value
-slot_bound : (pairs : Pairs) (slot : ℕ) → (n : ℕ) → IsSlotOf pairs n slot → value_at pairs slot ≡ None → ⊥
-slot_bound pairs slot n (v, e) unbound = all_got (λ q. q.0 ≡ slot → ⊥) pairs n (slot, v) (apart_from pairs slot unbound) e refl
-
--- ---- slots of an entry
-pub entry_here : (slots : Slots) (k : ℕ) → slots.query ≤ k → k < slots.query + slots.entry → variable_of slots k ≡ entry (k - slots.query)
-entry_here slots k above below = elim (lt_tells k slots.query) [
-  | inl h ↦ absurd (omega (arith, above, h.1))
-  | inr h ↦ elim (lt_tells k (slots.query + slots.entry)) [
-    | inl j ↦ rw (h.0, j.0) refl
-    | inr j ↦ absurd (omega (arith, below, j.1))
-  ]
-]
-
-pub record IsEntrySlot (slots : Slots) (k m : ℕ) : Type 0 where
-  pub above : slots.query ≤ k
-  pub below : k < slots.query + slots.entry
-  pub slot : slots.query + m ≡ k
-
-query_no : (m n : ℕ) → query m ≡ entry n → ⊥
-query_no m n e = cc
-
-ind_no : (m n : ℕ) → ind m ≡ entry n → ⊥
-ind_no m n e = cc
-
-same_number : (m n : ℕ) → entry m ≡ entry n → m ≡ n
-same_number m n e = cc
-
-pub entry_slot : (slots : Slots) (k m : ℕ) → variable_of slots k ≡ entry m → IsEntrySlot slots k m
-entry_slot slots k m e = elim (lt_tells k slots.query) [
-  | inl h ↦ let bad : query k ≡ entry m = rw h.0 at e in absurd (query_no k m bad)
-  | inr h ↦ elim (lt_tells k (slots.query + slots.entry)) [
-    | inl j ↦ let one : entry (k - slots.query) ≡ entry m = rw (h.0, j.0) at e in record { above = h.1; below = j.1; slot = omega (arith, h.1, same_number (k - slots.query) m one) }
-    | inr j ↦ let bad : ind (k - slots.query - slots.entry) ≡ entry m = rw (h.0, j.0) at e in absurd (ind_no (k - slots.query - slots.entry) m bad)
-  ]
-]
-
 same_query : (m n : ℕ) → ◌≡◌ {A = Term} (terms.var (query m)) (terms.var (query n)) → m ≡ n
 same_query m n e = cc
 
@@ -126,22 +89,14 @@ module _ (slots : Slots) (pairs : Pairs) (count : ℕ) (frozen : FreezesQuery sl
       let q = entry_slot slots b.slot k b.variable in
       one_place pairs i j b.slot a.is_slot.0 b.is_slot.0 distinct (subst (λ l. slice_get pairs i ≡ Some (l, a.is_slot.0)) (sym p.slot ∙ q.slot) a.is_slot.1) b.is_slot.1
 
-  pub never_unbound : (n slot : ℕ) → IsSlotOf pairs n slot → None ≡ value_at pairs slot → ⊥
-  never_unbound n slot h e = slot_bound pairs slot n h (sym e)
-
-  pub no_entry : (n slot : ℕ) → IsSlotOf pairs n slot → (slot < slots.query) ⊎ (slots.query + slots.entry ≤ slot) → HasBecome slots pairs n NoEntry
-  no_entry n slot h out m b =
+  pub no_entry : (n slot : ℕ) → IsSlotOf pairs n slot → ((m : ℕ) × (variable_of slots slot ≡ entry m) → ⊥) → HasBecome slots pairs n NoEntry
+  no_entry n slot h none m b =
       let here : b.slot ≡ slot = slot_same (b.slot, b.is_slot.0) (slot, h.0) (sym b.is_slot.1 ∙ h.1) in
-      let is = entry_slot slots b.slot m b.variable in
-      elim out as (λ _. ⊥) [ inl less ↦ omega (arith, is.above, here, less) | inr more ↦ omega (arith, is.below, here, more) ]
+      none (m, ap (variable_of slots) (sym here) ∙ b.variable)
 
-  module _ (n slot : ℕ) (is_slot : IsSlotOf pairs n slot) (above : slots.query ≤ slot) (below : slot < slots.query + slots.entry) (v : Bor (List Cell)) (bound : Some v ≡ value_at pairs slot) (end : List Cell) (ends : EndsAt slots pairs v.now end) (range : AreInRange slots end) where
-    m : ℕ
-    m = slot - slots.query
-
+  module _ (n slot : ℕ) (is_slot : IsSlotOf pairs n slot) (m : ℕ) (name : variable_of slots slot ≡ entry m) (v : Bor (List Cell)) (bound : Some v ≡ value_at pairs slot) (end : List Cell) (ends : EndsAt slots pairs v.now end) (range : AreInRange slots end) where
     binds : BindsEntry slots pairs n m
-    unfolding m
-    binds = record { slot = slot; is_slot = is_slot; variable = entry_here slots slot above below }
+    binds = record { slot = slot; is_slot = is_slot; variable = name }
 
     head_is : get_or end 0 no_cell ≡ first_cell ends.last
     head_is = cell-at end 0 ends.last no_cell (whole_at end ends.last ends.last_stands)
@@ -151,11 +106,10 @@ module _ (slots : Slots) (pairs : Pairs) (count : ℕ) (frozen : FreezesQuery sl
 
     -- each solution takes the variable to what it makes of the end
     becomes : (s : Substitution Symbol Variable) → IsSolution slots pairs s → image same_variable s (entry m) ≡ apply same_variable s ends.last
-    unfolding m
     becomes s is =
-        let slot_is : slots.query + (slot - slots.query) ≡ slot = omega (arith, above) in
-        let inside_entry : slot - slots.query < slots.entry = omega (arith, above, below) in
-        value_same slots pairs (entry (slot - slots.query)) v ends.first inside_entry (ap (value_at pairs) slot_is ∙ sym bound) ends.first_stands (image same_variable s) is
+        let here = entry_slot slots slot m name in
+        let inside_entry : m < slots.entry = omega (arith, here.slot, here.below) in
+        value_same slots pairs (entry m) v ends.first inside_entry (ap (value_at pairs) here.slot ∙ sym bound) ends.first_stands (image same_variable s) is
         ∙ ends.same (image same_variable s) is
 
     pub query_range : (k : ℕ) → get_or end 0 no_cell ≡ cell.Query k → k < slots.query

@@ -1,6 +1,5 @@
 -- A descent from the root, where only indicator 0 is bound.
-use Rattle.std.proofs.Common.{◌≡◌, ◌↔◌, inl, inr, ℕ, ◌+◌, ◌<◌, ◌≤◌, zero, suc, Bool, true, false, cond, not, List, [], ◌∷◌, ◌++◌, filter, length, get_or, Option, None, Some, refl, ap, sym, ◌∙◌, subst, arith}
-use Rattle.std.proofs.lemmas.List.{length-append}
+use Rattle.std.proofs.Common.{◌≡◌, ◌↔◌, inl, inr, ℕ, ◌+◌, ◌<◌, zero, suc, List, [], ◌∷◌, ◌++◌, length, get_or, Option, None, Some, refl, ap, sym, ◌∙◌, subst, arith}
 use Rattle.std.specs.List.{AllByRecursion}
 use Rattle.std.specs.Borrow.{Bor}
 use Rattle.si_defs.specs.Terms as terms
@@ -27,6 +26,7 @@ use Rattle.si_legal.specs.Descents.{IsAnswer}
 use Rattle.si_legal.proofs.PathLaws.{one_node}
 use Rattle.si_legal.proofs.SplitLaws.{binding_left}
 use Rattle.si_changes.proofs.Frames.{legal_nodes}
+use Rattle.si_changes.proofs.NewLeaves.{firsts_few, variables_few}
 use Rattle.si_changes.proofs.OpenLaws.{open_opened, opened_low}
 use Rattle.si_descend.specs.Answers.{Finds, Retrieves, IsStoredAnswer}
 use Rattle.si_descend.specs.Descending.{HasRoomFor, ShowsPath, IsQuery, ShowsAbove}
@@ -35,26 +35,6 @@ use Rattle.si_descend.proofs.Entering.{one_row, term_in_range}
 use Rattle.si_descend.proofs.Openness.{of_kind}
 
 -- ---- the variables of a query are fewer than its cells
-fewer : (p : Variable → Bool) (xs : List Variable) → length (filter p xs) ≤ length xs
-fewer p [] = omega arith
-fewer p (x ∷ xs) = by (p x) (fewer p xs) where
-  by : (b : Bool) → length (filter p xs) ≤ length xs → length (cond b (x ∷ filter p xs) (filter p xs)) ≤ length (x ∷ xs)
-  by true h = omega (arith, h)
-  by false h = omega (arith, h)
-
-firsts_few : (xs : List Variable) → length (terms.firsts same_variable xs) ≤ length xs
-firsts_few [] = omega arith
-firsts_few (x ∷ xs) = omega (arith, fewer (λ y. not (same_variable x y)) (terms.firsts same_variable xs), firsts_few xs)
-
-mutual
-  variables_few : (t : Term) → length (terms.variables t) ≤ terms.size t
-  variables_few (terms.var x) = omega arith
-  variables_few (terms.app s ts) = omega (arith, all_variables_few ts)
-
-  all_variables_few : (ts : Terms) → length (terms.variables_of_all ts) ≤ terms.sizes ts
-  all_variables_few terms.none = omega arith
-  all_variables_few (terms.more t ts) = omega (arith, variables_few t, all_variables_few ts, length-append (terms.variables t) (terms.variables_of_all ts))
-
 counted_long : (k n : ℕ) → length (counted_from query k n) ≡ n
 counted_long k zero = refl
 counted_long k (suc n) = omega (arith, counted_long (suc k) n)
@@ -260,5 +240,7 @@ ind_no_app c k e s a n f = by (sym e ∙ f) where
   by : cell.Ind k ≡ cell.App s a n → ⊥
   by q = cc
 
-pub bound_first : {X : Type 0} (pairs old : List X) (p : X) → pairs ≡ old ++ p ∷ [] → old ≡ [] → pairs ≡ p ∷ []
-bound_first pairs old p e f = e ∙ ap (λ l. l ++ p ∷ []) f
+pub bound_first : {X : Type 0} (slots : Slots) (pairs old : List (ℕ × X)) (slot : ℕ) (v : X) → slot ≡ slot_of slots (ind 0) → pairs ≡ old ++ (slot, v) ∷ [] → old ≡ [] → pairs ≡ (slots.query + slots.entry, v) ∷ []
+bound_first slots pairs old slot v is e none =
+    let first : slot ≡ slots.query + slots.entry = omega (arith, is) in
+    e ∙ ap (λ l. l ++ (slot, v) ∷ []) none ∙ ap (λ k. (k, v) ∷ []) first

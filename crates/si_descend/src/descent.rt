@@ -124,7 +124,7 @@ pub fn retrieve(
     let cells = query.cells();
     let slots = slots_for(tree, relation, cells);
     let mut trail = memory.trail(slots.count())?;
-    trail.bind(slots.query as usize + slots.entry as usize, cells);
+    trail.bind(slots.indicator_slot(0), cells);
     let passed = descend(alloc, tree, root, relation, query, &slots, &mut trail, out);
     memory.take_back(trail);
     passed
@@ -145,7 +145,7 @@ pub fn count(
     let cells = query.cells();
     let slots = slots_for(tree, relation, cells);
     let mut trail = memory.trail(slots.count())?;
-    trail.bind(slots.query as usize + slots.entry as usize, cells);
+    trail.bind(slots.indicator_slot(0), cells);
     let search = Search::new(tree, relation, query, slots);
     let counted = count_below(alloc, &search, root, &mut trail);
     memory.take_back(trail);

@@ -141,8 +141,8 @@ fn free_end<'a>(trail: &Trail<&'a [Cell]>, slots: &Slots, indicator: &'a [Cell])
 {
     let end = end_of(trail, slots, indicator);
     match end[0] {
-        Cell::Query(number) => Some(number as usize),
-        Cell::Ind(number) => Some(slots.query as usize + slots.entry as usize + number as usize),
+        Cell::Query(number) => Some(slots.query_slot(number)),
+        Cell::Ind(number) => Some(slots.indicator_slot(number)),
         Cell::App { .. } => None,
         Cell::Entry(_) => None,
     }
@@ -175,14 +175,13 @@ fn is_clear_at(trail: &Trail<&[Cell]>, slots: &Slots, ends: &Ends, n: usize) -> 
     ensures { IsTrue result → HasClearValue slots.now trail.now.pairs ends.now n }
 {
     let slot = trail.slot(n);
-    let first = slots.query as usize;
-    if slot < first || slot >= first + slots.entry as usize {
+    if !slots.is_entry_slot(slot) {
         return true;
     }
-    match trail.get(slot) {
-        Some(value) => are_clear_cells(trail, slots, ends, value),
-        None => false,
-    }
+    let Some(value) = trail.get(slot) else {
+        unreachable!()
+    };
+    are_clear_cells(trail, slots, ends, value)
 }
 
 fn are_clear_cells(trail: &Trail<&[Cell]>, slots: &Slots, ends: &Ends, cells: &[Cell]) -> bool

@@ -35,7 +35,7 @@ pub(crate) fn asked_of<'a>(
     let Some(split) = search.tree.split(node) else {
         return None;
     };
-    let Some(value) = trail.get(slots.query as usize + slots.entry as usize + split as usize) else {
+    let Some(value) = trail.get(slots.indicator_slot(split)) else {
         return None;
     };
     let end = end_of(trail, slots, value);

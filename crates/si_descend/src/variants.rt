@@ -83,8 +83,7 @@ fn outcome(trail: &Trail<&[Cell]>, slots: &Slots, n: usize) -> Became
     ensures range { IsNumberInRange slots.now result }
 {
     let slot = trail.slot(n);
-    let first = slots.query as usize;
-    if slot < first || slot >= first + slots.entry as usize {
+    if !slots.is_entry_slot(slot) {
         return Became::NoEntry;
     }
     let Some(value) = trail.get(slot) else {

@@ -7,7 +7,7 @@ use Rattle.std.proofs.lemmas.List.Elements.{filter-append}
 use Rattle.std.proofs.Math.Seq.{take-append_seam}
 use Rattle.si_defs.specs.Bytes.{Bytes}
 use Rattle.si_defs.specs.Terms as terms
-use Rattle.si_defs.specs.Terms.{firsts}
+use Rattle.si_defs.specs.Terms.{firsts, arguments}
 use Rattle.si_defs.specs.Symbols.{Symbol, Numbering}
 use Rattle.si_defs.specs.Substitutions.{IsAmong}
 use Rattle.si_defs.specs.Clauses.{Term, Terms, Literal, IsSoundTerm, AreSoundTerms, IsSoundAtom, AreSoundLiterals, Clause, IsSoundClause}
@@ -17,7 +17,7 @@ use Rattle.si_defs.specs.declared.SymKind.TheVariants.{Word}
 use Rattle.si_defs.specs.declared.Side.TheVariants.{Predicate}
 use Rattle.si_defs.proofs.ListLaws.{all_from, all_front}
 use Rattle.si_defs.proofs.SymbolLaws.{text_is}
-use Rattle.si_term.specs.Walks.{subterms, subterms_of_all, arguments, entries_alone}
+use Rattle.si_term.specs.Walks.{subterms, subterms_of_all, entries_alone}
 use Rattle.si_term.specs.Meaning.{literal_of}
 use Rattle.si_term.specs.declared.clause.Literal as program
 use Rattle.si_flat.specs.declared.Cell.{Cell}

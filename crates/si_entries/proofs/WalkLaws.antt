@@ -4,20 +4,19 @@ use Rattle.std.specs.Prelude.{Option, None, Some}
 use Rattle.std.proofs.lemmas.List.{map-append}
 use Rattle.std.proofs.lemmas.Bool.{eqb-true}
 use Rattle.std.specs.List.{AllByRecursion}
-use Rattle.si_defs.specs.Terms.{app, var, row, size, sizes, below, occurrences, occurrences_from}
+use Rattle.si_defs.specs.Terms.{app, var, row, size, sizes, below, occurrences, occurrences_from, arguments}
 use Rattle.si_defs.specs.Clauses.{Term}
 use Rattle.si_defs.specs.Entries.{Placed, placed_term, proper_occurrences, literal_entry, entries_from}
 use Rattle.si_defs.proofs.ListLaws.{all_front, all_back}
 use Rattle.si_defs.specs.declared.TheConstants.{MOST_OCCURRENCES}
 use Rattle.si_term.specs.Terms.{term_of}
-use Rattle.si_term.specs.Walks.{arguments}
 use Rattle.si_term.specs.Meaning.{literal_of, entry_of}
 use Rattle.si_term.specs.declared.term.Term as program
 use Rattle.si_term.specs.declared.clause.Literal as program_literal
 use Rattle.si_term.specs.declared.clause.Entry as program_entry
 use Rattle.si_entries.specs.declared.walk.Row.{Row}
 use Rattle.si_entries.specs.declared.walk.Entries.{Entries}
-use Rattle.si_entries.specs.Walks.{terms_left, numbers, at, row_left, rows_left, left_of, place_in, weight_of, IsSmallRow, Gives, GivesAfter}
+use Rattle.si_entries.specs.Walks.{terms_left, numbers, at, row_left, rows_left, left_of, last_place, weight_of, IsSmallRow, Gives, GivesAfter}
 
 -- ---- subterms by their paths
 pub at_append : (n : ℕ) (p : List ℕ) (xs ys : List (List ℕ × Term)) → at n p (xs ++ ys) ≡ at n p xs ++ at n p ys
@@ -142,7 +141,7 @@ passed_none all = record { passed = []; long = refl; whole = refl }
 
 pub passed_more : (n : ℕ) (old mid new : Entries) (e : program_entry.Entry) → HasPassed n (left_of old) (left_of mid) → Gives mid new (Some e) → HasPassed (n + 1) (left_of old) (left_of new)
 passed_more n old mid new e h given =
-    let one : Placed = record { entry = entry_of e; place = place_in new } in
+    let one : Placed = record { entry = entry_of e; place = last_place new } in
     record {
       passed = h.passed ++ one ∷ [];
       long = omega (arith, h.long, length-append h.passed (one ∷ []));

@@ -46,8 +46,8 @@ abbrev pub left_of : Entries → List Placed
 left_of e = inside e ++ entries_from (1 + e.literal) (map literal_of e.literals.now)
 
 -- where the entry stands that was given last
-abbrev pub place_in : Entries → Place
-place_in e = record { literal = e.literal; path = numbers e.around.items }
+abbrev pub last_place : Entries → Place
+last_place e = record { literal = e.literal; path = numbers e.around.items }
 
 -- ---- bounds
 -- so many arguments were passed, and their sizes together are no more than may occur
@@ -89,12 +89,12 @@ pub record Descends (terms : List program.Term) (old new : Entries) : Type 0 whe
 abbrev pub GivesTerm : Entries → Entries → Option (Bor program.Term) → Type 0
 GivesTerm old new None = (inside old ≡ []) × (inside new ≡ [])
 GivesTerm old new (Some t) =
-    inside old ≡ record { entry = term_entry (term_of t.now); place = place_in new } ∷ inside new
+    inside old ≡ record { entry = term_entry (term_of t.now); place = last_place new } ∷ inside new
 
 abbrev pub Gives : Entries → Entries → Option program_entry.Entry → Type 0
 Gives old new None = (left_of old ≡ []) × (left_of new ≡ [])
 Gives old new (Some e) =
-    left_of old ≡ record { entry = entry_of e; place = place_in new } ∷ left_of new
+    left_of old ≡ record { entry = entry_of e; place = last_place new } ∷ left_of new
 
 -- the same after so many others
 abbrev pub GivesAfter : ℕ → Entries → Entries → Option program_entry.Entry → Type 0
@@ -102,4 +102,4 @@ GivesAfter n old new None = (length (left_of old) ≤ n) × (left_of new ≡ [])
 GivesAfter n old new (Some e) =
     (passed : List Placed) × (length passed ≡ n)
     × (left_of old
-    ≡ passed ++ record { entry = entry_of e; place = place_in new } ∷ left_of new)
+    ≡ passed ++ record { entry = entry_of e; place = last_place new } ∷ left_of new)

@@ -1,11 +1,10 @@
 // Numbers for variables, from 0 in the order in which they are met.
 ghost use Rattle.std.specs.Prelude.{◌≡◌, ◌<◌, ◌^◌, ◌==◌, [], ◌∷◌, IfOk, OnOk, length};
 ghost use Rattle.indexmap.specs.IndexSet.{insert_key, insert_all};
-ghost use Rattle.si_defs.specs.Substitutions.{Grows};
 ghost use Rattle.si_flat.specs.Flattening.{FindsPlace, IsIndex};
 ghost use Rattle.si_entries.specs.Numbers.{same_number, entry_numbers, IsNumberedIn, numbered_anew};
 
-use si_flat::Cell;
+use si_flat::{Cell, reach};
 use std::alloc::{AllocError, Global};
 use std::marker::Model;
 
@@ -57,7 +56,7 @@ impl MetVariables {
             return Ok(place);
         }
         let place = self.met.len() as u32;
-        reach(&mut self.places, variable)?;
+        reach(&mut self.places, variable, 0)?;
         self.met.push(variable)?;
         self.places[variable as usize] = place;
         Ok(place)
@@ -74,18 +73,6 @@ impl MetVariables {
         }
         None
     }
-}
-
-/// Has the table reach to this number.
-fn reach(places: &mut Vec<u32>, number: u32) -> Result<(), AllocError>
-    ensures grows { Grows places.old.items places.new.items }
-    ensures ok { OnOk result (number < length places.new.items) }
-{
-    let place = number as usize;
-    if places.len() <= place {
-        places.resize(place + 1, 0)?;
-    }
-    Ok(())
 }
 
 /// The cell, with an entry's variable by its number among those that were met.

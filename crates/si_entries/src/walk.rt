@@ -1,13 +1,12 @@
 // A walk through the entries of a clause.
 ghost use Rattle.std.specs.Prelude.{◌≡◌, ◌≤◌, [], IfOk, OnOk, IfSome, IfNone, map};
-ghost use Rattle.si_defs.specs.Terms.{row, sizes};
+ghost use Rattle.si_defs.specs.Terms.{row, sizes, arguments};
 ghost use Rattle.si_defs.specs.Clauses.{literals_size};
 ghost use Rattle.si_defs.specs.Entries.{entries};
 ghost use Rattle.si_defs.specs.declared.TheConstants.{MOST_OCCURRENCES};
 ghost use Rattle.si_term.specs.Terms.{term_of};
 ghost use Rattle.si_term.specs.Meaning.{clause_of, literal_of, place_of};
-ghost use Rattle.si_term.specs.Walks.{arguments};
-ghost use Rattle.si_entries.specs.Walks.{IsSmall, HasSameLiterals, Passes, Descends, Gives, GivesAfter, GivesTerm, inside, left_of, place_in, weight};
+ghost use Rattle.si_entries.specs.Walks.{IsSmall, HasSameLiterals, Passes, Descends, Gives, GivesAfter, GivesTerm, inside, left_of, last_place, weight};
 
 use si_term::{Clause, Entry, Literal, Path, Place, Term};
 use std::alloc::{AllocError, Global};
@@ -81,7 +80,7 @@ impl<'a> Entries<'a> {
 
     /// The place of the entry that was given last.
     pub fn place(&self) -> Result<Place, AllocError>
-        ensures { IfOk result (λ place. place_of place ≡ place_in self.now) }
+        ensures { IfOk result (λ place. place_of place ≡ last_place self.now) }
     {
         let mut path = Path::new(self.alloc);
         for row in self.around.iter() {

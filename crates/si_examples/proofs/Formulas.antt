@@ -12,7 +12,7 @@ use Rattle.si_defs.specs.declared.SymKind.{SymKind}
 use Rattle.si_defs.specs.declared.SymKind.TheVariants.{Word, Dollar, Number, Distinct, Equal}
 use Rattle.si_defs.specs.declared.TokenKind.{TokenKind}
 use Rattle.si_defs.specs.declared.TokenKind.TheVariants as token
-use Rattle.si_defs.proofs.ListLaws.{same_head}
+use Rattle.si_defs.proofs.ListLaws.{same_first}
 use Rattle.si_examples.proofs.Differ.{marks_differ}
 
 abbrev is_no_mark : Token → Bool
@@ -135,14 +135,14 @@ bare_not t ts h b =
 -- `)` begins no formula
 pub bracket_opens : (ts : List Token) → Opens (right_bracket ∷ ts) → ⊥
 bracket_opens ts (inl b) = bare_not right_bracket ts refl b
-bracket_opens ts (inr (inl k)) = marks_differ 41 126 refl (same_head k.2)
-bracket_opens ts (inr (inr (inl k))) = marks_differ 41 126 refl (same_head k.1)
-bracket_opens ts (inr (inr (inr k))) = marks_differ 41 40 refl (same_head k.1)
+bracket_opens ts (inr (inl k)) = marks_differ 41 126 refl (same_first k.2)
+bracket_opens ts (inr (inr (inl k))) = marks_differ 41 126 refl (same_first k.1)
+bracket_opens ts (inr (inr (inr k))) = marks_differ 41 40 refl (same_first k.1)
 
 -- nor does a sign before `)`
 pub sign_opens : (ts : List Token) → Opens (mark 126 ∷ right_bracket ∷ ts) → ⊥
 unfolding rest_of
 sign_opens ts (inl b) = bare_not (mark 126) (right_bracket ∷ ts) refl b
 sign_opens ts (inr (inl k)) = bare_not right_bracket ts refl (subst BeginsBare (sym (ap rest_of k.2)) k.1)
-sign_opens ts (inr (inr (inl k))) = marks_differ 41 40 refl (same_head (ap rest_of k.1))
-sign_opens ts (inr (inr (inr k))) = marks_differ 126 40 refl (same_head k.1)
+sign_opens ts (inr (inr (inl k))) = marks_differ 41 40 refl (same_first (ap rest_of k.1))
+sign_opens ts (inr (inr (inr k))) = marks_differ 126 40 refl (same_first k.1)

@@ -6,7 +6,7 @@ use Rattle.std.proofs.lemmas.List.{same_from_push}
 use Rattle.std.proofs.lemmas.Bool.{false≢true}
 use Rattle.si_defs.specs.Terms as terms
 use Rattle.si_defs.specs.Entries.{term_entry, state_entries}
-use Rattle.si_defs.proofs.ListLaws.{same_head}
+use Rattle.si_defs.proofs.ListLaws.{same_first}
 use Rattle.si_defs.specs.declared.Relation.TheVariants.{Instances}
 use Rattle.si_state.specs.Answers.{Hit, Stands, Solves}
 use Rattle.si_defs.specs.Variables.{Apart}
@@ -55,7 +55,7 @@ one_alone n (inr k) = elim k.1 [
 
 pub no_answer_untold : NoAnswerUntold
 no_answer_untold setting new (passed, nodes, answers, counts, said, stays) =
-    let line = same_head (said ∙ ap (λ n. explain_line passed nodes n ∷ []) (one_alone answers counts)) in
+    let line = same_first (said ∙ ap (λ n. explain_line passed nodes n ∷ []) (one_alone answers counts)) in
     let front = codes "passed " ++ decimal passed ++ codes " nodes " ++ decimal nodes ++ codes " answers " in
     differ 48 49 refl (same_from_push (codes "passed 2 nodes 3 answers ") front 48 49 (line ∙ ap (λ ds. front ++ ds) (decimal_digit 1 (omega arith)))).1
 

@@ -28,8 +28,8 @@ NoEmptyFormula = (item : Item)
     ∷ lower (codes "axiom") ∷ comma ∷ right_bracket ∷ full_stop ∷ []) → ⊥
 
 -- and `cnf(c2,axiom,~).` is none
-abbrev pub NoSignAlone : Type 0
-NoSignAlone = (item : Item)
+abbrev pub NoTildeAlone : Type 0
+NoTildeAlone = (item : Item)
     → IsItem item (lower (codes "cnf") ∷ left_bracket ∷ lower (codes "c2") ∷ comma
     ∷ lower (codes "axiom") ∷ comma ∷ mark 126 ∷ right_bracket ∷ full_stop ∷ []) → ⊥
 

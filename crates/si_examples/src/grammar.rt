@@ -1,11 +1,11 @@
 // What tokens spell.
-ghost use Rattle.si_examples.specs.Grammar.{FirstClause, NoEmptyFormula, NoSignAlone, NoOpenBracket, SelectedInclude, NoEmptySelection, NoEmptyClause, NoVariableAtom, NegatedLiteral, NoDoubleSign, Inequation, NoUnequalAtom, QuotedWord, DistinctObject, NoDistinctWord, NoDistinctFunction, QuotedName, NoQuotedInteger, BalancedExtra, CrossedBrackets, NestingOfTwo, BracketedFormula, DeepestNesting, NoDeeperNesting};
+ghost use Rattle.si_examples.specs.Grammar.{FirstClause, NoEmptyFormula, NoTildeAlone, NoOpenBracket, SelectedInclude, NoEmptySelection, NoEmptyClause, NoVariableAtom, NegatedLiteral, NoDoubleSign, Inequation, NoUnequalAtom, QuotedWord, DistinctObject, NoDistinctWord, NoDistinctFunction, QuotedName, NoQuotedInteger, BalancedExtra, CrossedBrackets, NestingOfTwo, BracketedFormula, DeepestNesting, NoDeeperNesting};
 
 /// Which tokens are an item.
 pub fn items()
     ensures first_clause { FirstClause }
     ensures no_empty_formula { NoEmptyFormula }
-    ensures no_sign_alone { NoSignAlone }
+    ensures no_tilde_alone { NoTildeAlone }
     ensures no_open_bracket { NoOpenBracket }
     ensures selected_include { SelectedInclude }
     ensures no_empty_selection { NoEmptySelection }

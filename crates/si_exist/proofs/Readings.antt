@@ -1,11 +1,12 @@
--- Each file has a reading that tells no failure of the library: files are open at most as deep as
+-- Each file has a reading that reports no failure of the library: files are open at most as deep as
 -- may be, and after each item fewer bytes are left.
 use Rattle.std.proofs.Common.{◌≡◌, ℕ, zero, suc, ◌+◌, ◌≤◌, ◌<◌, List, [], ◌∷◌, ◌++◌, length, Option, None, Some, codes, inl, inr, refl, sym, ◌∙◌, ap, subst, arith, append_assoc, length-append}
 use Rattle.std.proofs.lemmas.Bool.{cases_lt}
+use Rattle.std.specs.List.{concat}
 use Rattle.si_defs.specs.Bytes.{Bytes}
 use Rattle.si_defs.specs.Clauses.{Name, Clause}
 use Rattle.si_defs.specs.Substitutions.{IsAmong}
-use Rattle.si_defs.specs.Tokens.{Token, lower, IsBlank, joined, Skips, AreBlanks, Spells, NextToken, Begins}
+use Rattle.si_defs.specs.Tokens.{Token, lower, IsBlank, Skips, AreBlanks, Spells, NextToken, Begins}
 use Rattle.si_defs.specs.declared.TokenKind.{TokenKind}
 use Rattle.si_defs.specs.Grammar.{Selection, Item, clause_item, include_item}
 use Rattle.si_defs.specs.Texts.{BeginsWithItem, IsFaulty, IsForeign, line_of}
@@ -17,14 +18,14 @@ use Rattle.si_state.specs.States.{State, Rules}
 use Rattle.si_state.specs.Harvest.{Files, Bounds, Event, ask, attempt, tried, fetches, Fault, cycle, too_deep, too_many, missing, too_big, foreign, malformed, rejected, MayAsk, narrowed, IsSelected, ReadingPoint, IsOnLine, Harvests, barred, withheld, fetched, Continues, ended, stuck, passed_over, accepted, refused, expanded, broken_off, clauses_behind}
 use Rattle.si_steps.specs.Settings.{Setting}
 use Rattle.si_steps.specs.Loads.{nothing, owed_for, owed_by, MayFetch, gained_line, load_line, load_bounds, PerformsLoad}
-use Rattle.si_laws.specs.OneReply.{TellsNoFailure}
+use Rattle.si_laws.specs.OneReply.{ReportsNoFailure}
 use Rattle.si_exist.specs.OneList.{IsNotAbsent}
 use Rattle.si_exist.specs.RightReplies.{HasOneWithoutFailure}
 use Rattle.si_exist.proofs.NotAbsent.{there, and_then, either_way}
 use Rattle.si_exist.proofs.TriedClauses.{accepted_or_refused}
 
--- ---- what tells no failure
-pub owes_nothing : TellsNoFailure nothing
+-- ---- what reports no failure
+pub owes_nothing : ReportsNoFailure nothing
 owes_nothing = refl
 
 -- ---- places
@@ -40,11 +41,11 @@ some_spelling kind text (c ∷ cs) h = omega arith
 
 behind_token : (bytes : Bytes) (t : Token) (rest : Bytes) → NextToken bytes t rest → IsBehind bytes rest
 behind_token bytes t rest n = record {
-  front = joined n.skips.blanks ++ n.stands.spelling;
-  whole = n.skips.whole ∙ ap (λ l. joined n.skips.blanks ++ l) n.stands.front ∙ sym (append_assoc (joined n.skips.blanks) n.stands.spelling rest);
+  front = concat n.skips.blanks ++ n.stands.spelling;
+  whole = n.skips.whole ∙ ap (λ l. concat n.skips.blanks ++ l) n.stands.front ∙ sym (append_assoc (concat n.skips.blanks) n.stands.spelling rest);
   some =
       let own = some_spelling t.kind t.text n.stands.spelling n.stands.spelled in
-      omega (arith, own, length-append (joined n.skips.blanks) n.stands.spelling);
+      omega (arith, own, length-append (concat n.skips.blanks) n.stands.spelling);
 }
 
 behind_tokens : (bytes : Bytes) (t : Token) (ts : List Token) (rest : Bytes) → Begins bytes (t ∷ ts) rest → IsBehind bytes rest
@@ -82,11 +83,11 @@ behind_blanks (suc n) bytes short =
 module _ (files : Files) (bounds : Bounds) (rules : Rules) where
   abbrev IsRead : List Bytes → List (List Name) → ℕ → List Clause → Bytes → Type 0
   IsRead opened around made clauses file =
-      IsNotAbsent ((events : List Event) × (fault : Option Fault) × Harvests files bounds rules opened around made clauses file events fault × TellsNoFailure (owed_for 0 fault))
+      IsNotAbsent ((events : List Event) × (fault : Option Fault) × Harvests files bounds rules opened around made clauses file events fault × ReportsNoFailure (owed_for 0 fault))
 
   abbrev IsReadOn : ReadingPoint → ℕ → List Clause → Type 0
   IsReadOn point made clauses =
-      IsNotAbsent ((events : List Event) × (fault : Option Fault) × Continues files bounds rules point made clauses events fault × TellsNoFailure (owed_for 0 fault))
+      IsNotAbsent ((events : List Event) × (fault : Option Fault) × Continues files bounds rules point made clauses events fault × ReportsNoFailure (owed_for 0 fault))
 
   -- files are read after so many open ones that no more than d may be opened
   abbrev AreReadBehind : ℕ → Type 0
@@ -96,9 +97,9 @@ module _ (files : Files) (bounds : Bounds) (rules : Rules) where
   faulty_here point made clauses read whole faulty =
       and_then (behind_blanks (suc (length point.rest)) point.rest (omega arith))
       (λ p.
-      let before = read ++ joined p.1.blanks in
+      let before = read ++ concat p.1.blanks in
       let on_line : IsOnLine point (line_of before) =
-      (before, p.0, place_where point.rest p.0 p.1 p.2, whole ∙ ap (λ l. read ++ l) p.1.whole ∙ sym (append_assoc read (joined p.1.blanks) p.0), refl) in
+      (before, p.0, place_where point.rest p.0 p.1 p.2, whole ∙ ap (λ l. read ++ l) p.1.whole ∙ sym (append_assoc read (concat p.1.blanks) p.0), refl) in
       either_way (IsForeign point.rest)
       (λ other.
       elim other [
@@ -147,7 +148,7 @@ module _ (files : Files) (bounds : Bounds) (rules : Rules) where
       include_here file selection after begins =
           and_then (inner point.opened (narrowed selection point.around) made clauses file deep) (λ h. by h.0 h.1 h.2 h.3)
         where
-          by : (inside : List Event) (fault : Option Fault) → Harvests files bounds rules point.opened (narrowed selection point.around) made clauses file inside fault → TellsNoFailure (owed_for 0 fault) → IsReadOn point made clauses
+          by : (inside : List Event) (fault : Option Fault) → Harvests files bounds rules point.opened (narrowed selection point.around) made clauses file inside fault → ReportsNoFailure (owed_for 0 fault) → IsReadOn point made clauses
           by inside None h quiet =
               and_then (go_on (include_item file selection) after begins (made + fetches inside) (clauses ++ tried inside))
               (λ r. there (inside ++ r.0, r.1, expanded point made clauses file selection after begins inside r.0 (inside ++ r.0) r.1 h r.2 refl, r.3))

@@ -26,11 +26,11 @@ agrees_or_clashes (r ∷ rs) s =
     ])
 
 abbrev HasFirstClash : List Symbol → List Symbol → Type 0
-HasFirstClash known own = (number : ℕ) × (found : Symbol) × (kept : Symbol) × IsFirstClash known own number found kept
+HasFirstClash known own = (occurrence : ℕ) × (found : Symbol) × (kept : Symbol) × IsFirstClash known own occurrence found kept
 
 clash_later : (known : List Symbol) (s : Symbol) (ss : List Symbol) → Agrees known s → HasFirstClash (known ++ s ∷ []) ss → HasFirstClash known (s ∷ ss)
-clash_later known s ss a (number, found, kept, first) = (
-  suc number,
+clash_later known s ss a (occurrence, found, kept, first) = (
+  suc occurrence,
   found,
   kept,
   record {

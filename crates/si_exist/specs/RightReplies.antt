@@ -9,7 +9,7 @@ use Rattle.si_steps.specs.Replies.{Reply}
 use Rattle.si_steps.specs.Steps.{RightStep}
 use Rattle.si_steps.specs.FileWords.{RightWord}
 use Rattle.si_steps.specs.Runs.{Request}
-use Rattle.si_laws.specs.OneReply.{TellsNoFailure, RightRun}
+use Rattle.si_laws.specs.OneReply.{ReportsNoFailure, RightRun}
 use Rattle.si_exist.specs.OneList.{IsNotAbsent}
 
 -- Of these replies, each with what it owes and the state after it, there is one that tells no
@@ -17,7 +17,7 @@ use Rattle.si_exist.specs.OneList.{IsNotAbsent}
 abbrev pub HasOneWithoutFailure : (Reply → Owed → State → Type 0) → Type 0
 HasOneWithoutFailure P =
     IsNotAbsent ((reply : Reply) × (owed : Owed) × (new : State) × P reply owed new
-    × TellsNoFailure owed)
+    × ReportsNoFailure owed)
 
 -- the line has a right step
 abbrev pub HasRightStep : Setting → Option Files → State → Bytes → Type 0

@@ -28,7 +28,7 @@ pub fn patterns_have_an_answer()
     ensures { (relation : Relation) → HasAnAnswer relation }
 {}
 
-/// Nor that a line has no right step, one that tells no failure of the library, whatever the
+/// Nor that a line has no right step, one that reports no failure of the library, whatever the
 /// limits, the rules of acceptance, the kept clauses and the files are.
 pub fn lines_have_a_right_step()
     ensures { (setting : Setting) (told : Option Files) (state : State) (line : Bytes)

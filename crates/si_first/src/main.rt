@@ -93,11 +93,11 @@ fn answer<K: Sink>(
     // A program that asks more than once lends it to each question.
     let mut memory = SearchMemory::new(alloc);
     let found = index.find(&mut memory, index.trees(), Relation::Instances, pattern)?;
-    tell(&found, sink)
+    report(&found, sink)
 }
 
 /// Prints the clause and the place of each hit.
-fn tell<K: Sink>(found: &Found<'_>, sink: &mut K) -> Result<(), Fault> {
+fn report<K: Sink>(found: &Found<'_>, sink: &mut K) -> Result<(), Fault> {
     for n in 0..found.len() {
         put_place(sink, &found.clause(n).name, &found.hit(n).place)?;
         put_bytes(sink, b"\n")?;

@@ -13,7 +13,7 @@ use Rattle.si_unify.specs.Spots.{cell_slot, IsBelow, ComesDown, IsChained, IsUnb
 use Rattle.si_unify.proofs.Places.{value_holds, whole_at, first_cell, cell-at, inside, in_range-at, in_range-variable, variable_of-slot_of, slot_variable}
 use Rattle.si_unify.proofs.Reading.{one_term}
 use Rattle.si_unify.proofs.Answering.{legal_at_first}
-use Rattle.si_fit.specs.Ends.{EndsAt}
+use Rattle.si_fit.specs.Ends.{HasFollowed}
 
 abbrev pub no_cell : Cell
 no_cell = cell.App 0 0 0
@@ -99,20 +99,24 @@ module _ (slots : Slots) (pairs : Pairs) (start : List Cell) where
         low = λ next e. omega (arith, low, next_below slots h.chained.rank slot next v.now down e);
       }
 
-  ended : (reached : List Cell) (steps : ℕ) → IsDown reached steps → IsUnbound pairs (cell_slot slots (get_or reached 0 no_cell)) → EndsAt slots pairs start reached
+  ended : (reached : List Cell) (steps : ℕ) → IsDown reached steps → IsUnbound pairs (cell_slot slots (get_or reached 0 no_cell)) → HasFollowed slots pairs start reached
   ended reached steps h unbound = record {
-    first = h.first;
-    first_stands = h.first_stands;
-    last = h.last;
-    last_stands = h.last_stands;
-    same = h.same;
-    unbound = unbound;
+    ends = record {
+      first = h.first;
+      first_stands = h.first_stands;
+      last = h.last;
+      last_stands = h.last_stands;
+      same = h.same;
+      unbound = unbound;
+    };
+    range = h.range;
+    within = h.within;
   }
 
-  pub ends_unbound : (reached : List Cell) (steps : ℕ) (h : IsDown reached steps) (o : Option ℕ) → o ≡ cell_slot slots (get_or reached 0 no_cell) → IsUnbound pairs o → EndsAt slots pairs start reached
+  pub ends_unbound : (reached : List Cell) (steps : ℕ) (h : IsDown reached steps) (o : Option ℕ) → o ≡ cell_slot slots (get_or reached 0 no_cell) → IsUnbound pairs o → HasFollowed slots pairs start reached
   ends_unbound reached steps h o e unbound = ended reached steps h (subst (IsUnbound pairs) e unbound)
 
-  pub ends_full : (reached : List Cell) (steps : ℕ) (h : IsDown reached steps) → length pairs ≤ steps → EndsAt slots pairs start reached
+  pub ends_full : (reached : List Cell) (steps : ℕ) (h : IsDown reached steps) → length pairs ≤ steps → HasFollowed slots pairs start reached
   ends_full reached steps h full = ended reached steps h (by (cell_slot slots (get_or reached 0 no_cell)) refl) where
     bound : (slot : ℕ) → cell_slot slots (get_or reached 0 no_cell) ≡ Some slot → (o : Option (Bor (List Cell))) → value_at pairs slot ≡ o → value_at pairs slot ≡ None
     bound slot here None e = e
@@ -123,14 +127,18 @@ module _ (slots : Slots) (pairs : Pairs) (start : List Cell) where
     by (Some slot) e = bound slot e (value_at pairs slot) refl
 
   -- ---- the first step by itself
-  pub ends_on : (reached end : List Cell) (steps : ℕ) → IsDown reached steps → EndsAt slots pairs reached end → EndsAt slots pairs start end
-  ends_on reached end steps h ends = record {
-    first = h.first;
-    first_stands = h.first_stands;
-    last = ends.last;
-    last_stands = ends.last_stands;
-    same = λ f is. h.same f is ∙ ap (terms.substitute f) (one_term reached h.last ends.first h.last_stands ends.first_stands) ∙ ends.same f is;
-    unbound = ends.unbound;
+  pub ends_on : (reached end : List Cell) (steps : ℕ) → IsDown reached steps → HasFollowed slots pairs reached end → HasFollowed slots pairs start end
+  ends_on reached end steps h is = record {
+    ends = record {
+      first = h.first;
+      first_stands = h.first_stands;
+      last = is.ends.last;
+      last_stands = is.ends.last_stands;
+      same = λ f solved. h.same f solved ∙ ap (terms.substitute f) (one_term reached h.last is.ends.first h.last_stands is.ends.first_stands) ∙ is.ends.same f solved;
+      unbound = is.ends.unbound;
+    };
+    range = is.range;
+    within = λ n values few. is.within n values (h.within n values few);
   }
 
   -- the slot of an indicator
@@ -141,6 +149,6 @@ module _ (slots : Slots) (pairs : Pairs) (start : List Cell) where
   indicator_down count number v e solving range bound =
       down_further start 0 (slots.query + slots.entry + number) v (down_starts count solving (indicator_whole start number e) range) (indicator_slot number e) bound
 
-  pub indicator_unbound : (count number : ℕ) → start ≡ cell.Ind number ∷ [] → AllowsSolving slots pairs count → AreInRange slots start → None ≡ value_at pairs (slots.query + slots.entry + number) → EndsAt slots pairs start start
+  pub indicator_unbound : (count number : ℕ) → start ≡ cell.Ind number ∷ [] → AllowsSolving slots pairs count → AreInRange slots start → None ≡ value_at pairs (slots.query + slots.entry + number) → HasFollowed slots pairs start start
   indicator_unbound count number e solving range free =
       ends_unbound start 0 (down_starts count solving (indicator_whole start number e) range) (Some (slots.query + slots.entry + number)) (indicator_slot number e) (sym free)

@@ -1,10 +1,9 @@
 // Where chains of bound variables end.
-ghost use Rattle.std.specs.Prelude.{◌≡◌, ℕ, ◌≤◌, ◌∷◌, [], length};
+ghost use Rattle.std.specs.Prelude.{◌≡◌, ◌∷◌, []};
 ghost use Rattle.si_flat.specs.declared.Cell.TheVariants.{Ind};
 ghost use Rattle.si_flat.specs.Cells.{IsWhole};
-ghost use Rattle.si_unify.specs.Rooms.{AreNoLongerThan};
 ghost use Rattle.si_unify.specs.Solving.{AreInRange, AllowsSolving};
-ghost use Rattle.si_fit.specs.Ends.{EndsAt};
+ghost use Rattle.si_fit.specs.Ends.{HasFollowed};
 
 use si_flat::Cell;
 use si_trail::Trail;
@@ -16,10 +15,7 @@ pub fn end_of<'a>(trail: &Trail<&'a [Cell]>, slots: &Slots, start: &'a [Cell]) -
     requires whole { IsWhole start.now }
     requires range { AreInRange slots.now start.now }
     requires solving { AllowsSolving slots.now trail.now.pairs trail.now.slots }
-    ensures ends { EndsAt slots.now trail.now.pairs start.now result.now }
-    ensures range { AreInRange slots.now result.now }
-    ensures within { (n : ℕ) → AreNoLongerThan n trail.now.pairs → length start.now ≤ n
-        → length result.now ≤ n }
+    ensures { HasFollowed slots.now trail.now.pairs start.now result.now }
 {
     let mut reached = start;
     for _ in 0..trail.mark() {
@@ -46,13 +42,9 @@ pub(crate) fn end_of_indicator<'a>(
     requires indicator { start.now ≡ Ind number ∷ [] }
     requires range { AreInRange slots.now start.now }
     requires solving { AllowsSolving slots.now trail.now.pairs trail.now.slots }
-    ensures ends { EndsAt slots.now trail.now.pairs start.now result.now }
-    ensures range { AreInRange slots.now result.now }
-    ensures within { (n : ℕ) → AreNoLongerThan n trail.now.pairs → length start.now ≤ n
-        → length result.now ≤ n }
+    ensures { HasFollowed slots.now trail.now.pairs start.now result.now }
 {
-    let slot = slots.query as usize + slots.entry as usize + number as usize;
-    match trail.get(slot) {
+    match trail.get(slots.indicator_slot(number)) {
         Some(value) => end_of(trail, slots, value),
         None => start,
     }

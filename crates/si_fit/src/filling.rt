@@ -77,8 +77,7 @@ fn fill_one<'a>(
         // So no slot of the trail is known to be bound twice.
         trail.mark();
         let end = end_of(trail, slots, left);
-        let slot = slots.query as usize + slots.entry as usize + number as usize;
-        trail.bind(slot, end);
+        trail.bind(slots.indicator_slot(number), end);
         return Met::Equal;
     }
     meet(trail, slots, left, right, budget)

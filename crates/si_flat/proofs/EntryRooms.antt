@@ -1,5 +1,5 @@
 -- Room for an entry.
-use Rattle.std.proofs.Common.{◌≡◌, ℕ, ◌≤◌, [], length, refl, ap, subst, ◌∙◌, arith}
+use Rattle.std.proofs.Common.{◌≡◌, ℕ, ◌≤◌, [], length, ap, subst, ◌∙◌, arith}
 use Rattle.std.proofs.lemmas.List.{length-map}
 use Rattle.std.specs.Prelude.{bytes_eq}
 use Rattle.std.proofs.lemmas.Slice.Eq.{bytes_eq-Decides}
@@ -10,15 +10,15 @@ use Rattle.si_defs.specs.Clauses as clauses
 use Rattle.si_defs.specs.Entries as entries
 use Rattle.si_defs.proofs.SymbolLaws.{symbol-Decides}
 use Rattle.si_term.proofs.Inserted.{inserted-firsts}
-use Rattle.si_term.specs.Meaning as meaning
 use Rattle.si_flat.specs.declared.Owner.{Owner}
 use Rattle.si_flat.specs.declared.walk.TheConstants.{FEW_CELLS}
 use Rattle.si_flat.specs.declared.walk.Scheme.{Scheme}
 use Rattle.si_flat.specs.declared.walk.WrittenEntry.{WrittenEntry}
 use Rattle.si_flat.specs.Rooms.{Room, IsNoLess}
-use Rattle.si_flat.specs.Flattened.{unnumbered, whole_of, is_positive, IsEnoughFor}
+use Rattle.si_defs.specs.Entries.{whole_of}
+use Rattle.si_flat.specs.Flattened.{unnumbered, is_positive, IsEnoughFor}
 use Rattle.si_flat.specs.Flattening.{symbol_of_key, room_of, WalkState, walk_state, empty_walk, entry_scheme, term_piece, Flattens, Fits, WritesEntry}
-use Rattle.si_flat.proofs.FlattenLaws.{variables_whole, names_written, extra_written}
+use Rattle.si_flat.proofs.FlattenLaws.{names_written, extra_written}
 use Rattle.si_flat.proofs.RoomLaws.{length_term}
 
 -- it fits where nothing was met or written
@@ -32,8 +32,7 @@ pub enough_fits : (pairs : Numbering) (e : entries.Entry) (room more : Room) (st
 enough_fits pairs e room more start names extra cells no_less enough =
     let names_are : insert_all bytes_eq start.names (terms.variables (whole_of e)) ≡ entries.distinct_variables e =
     ap (λ l. insert_all bytes_eq l (terms.variables (whole_of e))) names
-    ∙ inserted-firsts bytes_eq bytes_eq-Decides (terms.variables (whole_of e))
-    ∙ ap (terms.firsts bytes_eq) (variables_whole e) in
+    ∙ inserted-firsts bytes_eq bytes_eq-Decides (terms.variables (whole_of e)) in
     let lacks = unnumbered pairs (terms.symbols (whole_of e)) in
     let extra_is : insert_all same_symbol start.extra lacks ≡ terms.firsts same_symbol lacks =
     ap (λ l. insert_all same_symbol l lacks) extra ∙ inserted-firsts same_symbol symbol-Decides lacks in
@@ -57,10 +56,6 @@ written_is_enough pairs owner e w capacity few within h =
       names = omega (arith, ap length (names_written pairs owner e w h));
       symbols = omega (arith, ap length (extra_written pairs owner e w h), length-map w.met.extra.keys symbol_of_key);
     }
-
-pub same_whole : (e : entries.Entry) → meaning.whole_of e ≡ whole_of e
-same_whole (entries.literal_entry l) = refl
-same_whole (entries.term_entry t) = refl
 
 -- a walk from nothing over the entry's term has written the entry
 pub entry_walked : (pairs : Numbering) (owner : Owner) (e : entries.Entry) (scheme : Scheme) (start : WalkState) (w : WrittenEntry) (t : clauses.Term)

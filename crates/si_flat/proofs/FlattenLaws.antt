@@ -15,7 +15,8 @@ use Rattle.si_flat.specs.declared.walk.WrittenEntry.{WrittenEntry}
 use Rattle.si_flat.specs.Cells.{Variable, query, same_variable, cells_of, IsSound, AreSound, IsWhole}
 use Rattle.si_flat.specs.declared.flatten.FlatQuery.{FlatQuery}
 use Rattle.si_flat.specs.Numbered.{number_in, signed, place_in, numbered, all_numbered}
-use Rattle.si_flat.specs.Flattened.{extra_numbers, unnumbered, whole_of, is_positive, IsSoundEntry, numbered_entry, IsNumberedBy, IsFlatOf, IsQueryNumbering, FlattensPattern, FillsEntry}
+use Rattle.si_defs.specs.Entries.{whole_of}
+use Rattle.si_flat.specs.Flattened.{extra_numbers, unnumbered, is_positive, IsSoundEntry, numbered_entry, IsNumberedBy, IsFlatOf, IsQueryNumbering, FlattensPattern, FillsEntry}
 use Rattle.si_flat.specs.Flattening.{owners_variable, met_names, met_extra, number_by, entry_scheme, WritesEntry}
 use Rattle.si_term.proofs.Inserted.{inserted-firsts}
 use Rattle.si_flat.proofs.ExtraNumbers.{all_have, extra_numbering}
@@ -44,21 +45,16 @@ sound_whole : (n : Symbol → ℕ) (v : Bytes → Variable) (e : entries.Entry) 
 sound_whole n v (entries.literal_entry l) h = sound_atom n v l.atom h.0
 sound_whole n v (entries.term_entry t) h = sound_numbered n v t h.0
 
--- ---- variables
-pub variables_whole : (e : entries.Entry) → terms.variables (whole_of e) ≡ entries.entry_variables e
-variables_whole (entries.literal_entry l) = refl
-variables_whole (entries.term_entry t) = refl
-
 -- ---- what was written
 pub extra_written : (pairs : Numbering) (owner : Owner) (e : entries.Entry) (w : WrittenEntry) → WritesEntry pairs owner e w → met_extra w.met ≡ terms.firsts same_symbol (unnumbered pairs (terms.symbols (whole_of e)))
 extra_written pairs owner e w h = h.extra ∙ inserted-firsts same_symbol symbol-Decides (unnumbered pairs (terms.symbols (whole_of e)))
 
-pub names_written : (pairs : Numbering) (owner : Owner) (e : entries.Entry) (w : WrittenEntry) → WritesEntry pairs owner e w → met_names w.met ≡ terms.firsts bytes_eq (entries.entry_variables e)
-names_written pairs owner e w h = h.names ∙ inserted-firsts bytes_eq bytes_eq-Decides (terms.variables (whole_of e)) ∙ ap (terms.firsts bytes_eq) (variables_whole e)
+pub names_written : (pairs : Numbering) (owner : Owner) (e : entries.Entry) (w : WrittenEntry) → WritesEntry pairs owner e w → met_names w.met ≡ entries.distinct_variables e
+names_written pairs owner e w h = h.names ∙ inserted-firsts bytes_eq bytes_eq-Decides (terms.variables (whole_of e))
 
 cells_written : (pairs : Numbering) (owner : Owner) (e : entries.Entry) (w : WrittenEntry) → WritesEntry pairs owner e w → w.cells.items ≡ cells_of (numbered_entry (pairs ++ extra_numbers (met_extra w.met)) (owners_variable owner) e)
 cells_written pairs owner e w h =
-    let names : met_names w.met ++ [] ≡ terms.firsts bytes_eq (entries.entry_variables e) =
+    let names : met_names w.met ++ [] ≡ entries.distinct_variables e =
     append-nil (met_names w.met) ∙ names_written pairs owner e w h in
     h.cells [] []
     ∙ λ i. cells_of (numbered (number_by pairs (entry_scheme owner (is_positive e)) (append-nil (met_extra w.met) i)) (λ x. owners_variable owner (place_in bytes_eq (names i) x)) (whole_of e))

@@ -4,7 +4,7 @@ use Rattle.std.proofs.lemmas.List.{map-append, take_rest, length-drop}
 use Rattle.std.specs.Prelude.{slice_get, Option, None, Some}
 use Rattle.std.specs.Iterator.{YieldsFirstBy}
 use Rattle.si_defs.specs.Substitutions.{IsAmong, AreDistinct}
-use Rattle.si_defs.proofs.ListLaws.{all_append, among_front, among_back, among_parts, same_head, same_tail}
+use Rattle.si_defs.proofs.ListLaws.{all_append, among_front, among_back, among_parts, same_first, same_tail}
 use Rattle.std.proofs.Math.Seq.{drop-append_seam, take-append_seam}
 use Rattle.si_flat.specs.declared.Cell.{Cell}
 use Rattle.si_flat.specs.declared.Cell.TheVariants as cell
@@ -110,7 +110,7 @@ first_pair first after row = by row.pairs row.whole row.row where
     rest = bs;
     whole = whole.0;
     rest_whole = whole.1;
-    first_is = same_head e;
+    first_is = same_first e;
     after_is = same_tail e;
   }
 
@@ -170,7 +170,7 @@ left_of_walk bs rest b n e = by bs n e where
   by : (bs : List CellPair) (n : ℕ) → b ∷ rest ≡ drop n bs → (slice_get bs n ≡ Some b) × (rest ≡ drop (n + 1) bs)
   by [] zero e = cc
   by [] (suc n) e = cc
-  by (c ∷ bs) zero e = (sym (ap Some (same_head e)), same_tail e)
+  by (c ∷ bs) zero e = (sym (ap Some (same_first e)), same_tail e)
   by (c ∷ bs) (suc n) e = let k = by bs n e in (k.0, (let turn : suc (n + 1) ≡ suc n + 1 = omega arith in subst (λ m. rest ≡ drop m (c ∷ bs)) turn k.1))
 
 pub some_left : (bs : List CellPair) (n : ℕ) → n < length bs → drop n bs ≡ [] → ⊥

@@ -6,7 +6,7 @@ use Rattle.si_defs.specs.Symbols.{Symbol, Numbering, IsNumbering, same_symbol}
 use Rattle.si_defs.specs.Substitutions.{IsAmong}
 use Rattle.si_defs.specs.Clauses as clauses
 use Rattle.si_defs.specs.Clauses.{IsSoundTerm, IsSoundLiteral, literal_size}
-use Rattle.si_defs.specs.Entries.{Entry, literal_entry, term_entry, distinct_variables, pattern_entry}
+use Rattle.si_defs.specs.Entries.{Entry, literal_entry, term_entry, whole_of, distinct_variables, pattern_entry}
 use Rattle.si_defs.specs.declared.TheConstants.{MOST_OCCURRENCES}
 use Rattle.si_term.specs.Terms.{symbol_of}
 use Rattle.si_term.specs.declared.term.Sym.{Sym}
@@ -42,11 +42,6 @@ abbrev pub unnumbered : Numbering → List Symbol → List Symbol
 unnumbered pairs ss = filter (λ s. not (has_number pairs s)) ss
 
 -- ---- entries
--- the atom, or the term
-abbrev pub whole_of : Entry → clauses.Term
-whole_of (literal_entry l) = l.atom
-whole_of (term_entry t) = t
-
 -- a term by itself has no sign
 abbrev pub is_positive : Entry → Bool
 is_positive (literal_entry l) = l.positive

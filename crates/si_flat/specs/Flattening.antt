@@ -16,7 +16,8 @@ use Rattle.si_flat.specs.declared.walk.WrittenEntry.{WrittenEntry}
 use Rattle.si_flat.specs.declared.met.Met.{Met}
 use Rattle.si_flat.specs.declared.met.SymbolKey.{SymbolKey}
 use Rattle.si_flat.specs.Cells.{Variable, query, entry, cells_of, cells_of_all}
-use Rattle.si_flat.specs.Flattened.{numbers_from, unnumbered, is_positive, whole_of}
+use Rattle.si_defs.specs.Entries.{whole_of}
+use Rattle.si_flat.specs.Flattened.{numbers_from, unnumbered, is_positive}
 use Rattle.si_flat.specs.Rooms.{Room, names_room}
 use Rattle.si_flat.specs.Numbered.{number_in, signed, place_in, numbered, all_numbered}
 

@@ -11,7 +11,7 @@ ghost use Rattle.si_flat.specs.Flattened.{IsSoundEntry, IsEnoughFor, FillsEntry,
 
 use crate::walk::WrittenEntry;
 use crate::{Cell, Flat, Owner};
-use si_term::{Entry, Pattern, SymTable, Syms, Text, Texts};
+use si_term::{Entry, Pattern, SymTable, Syms, Texts, copy_texts};
 use std::alloc::{AllocError, Global};
 use std::marker::Model;
 
@@ -44,17 +44,6 @@ impl WrittenEntry<'_> {
             extra,
         })
     }
-}
-
-// The names, in memory of their own.
-fn copy_names(alloc: Global, names: &[&[u8]]) -> Result<Texts, AllocError>
-    ensures { IfOk result (λ copies. copies ≡ map (λ name. name.now) names.now) }
-{
-    let mut copies = Texts::with_capacity(alloc, names.len())?;
-    for name in names {
-        copies.push(Text::from_bytes(alloc, *name)?)?;
-    }
-    Ok(copies)
 }
 
 /// The flat term of an entry, with the table's numbers for its symbols. Its variables are numbered
@@ -107,7 +96,7 @@ pub fn flatten_with_names<T: SymTable>(
 {
     let mut written = WrittenEntry::new(alloc);
     written.write(table, Owner::Query, pattern.as_entry())?;
-    let names = copy_names(alloc, written.met.names())?;
+    let names = copy_texts(alloc, written.met.names())?;
     let query = written.into_query(alloc)?;
     Ok(NamedQuery { query, names })
 }

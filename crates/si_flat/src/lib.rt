@@ -15,6 +15,7 @@ mod clauses;
 mod flatten;
 mod met;
 mod names;
+mod tables;
 mod walk;
 mod writer;
 
@@ -31,6 +32,7 @@ use smallvec::SmallVec;
 use std::alloc::{AllocError, Global};
 use std::default::MadeWith;
 use std::marker::Model;
+pub use tables::reach;
 pub use writer::{Gap, QueryWriter};
 
 /// A map of literals: for each literal of a clause in order the number, from 1, of its image.

@@ -7,7 +7,8 @@ ghost use Rattle.si_term.specs.Meaning.{entry_of};
 ghost use Rattle.si_flat.specs.declared.Cell.TheVariants.{App};
 ghost use Rattle.si_flat.specs.Cells.{variable_cell};
 ghost use Rattle.si_flat.specs.Rooms.{IsNoLess};
-ghost use Rattle.si_flat.specs.Flattened.{whole_of, is_positive, IsEnoughFor};
+ghost use Rattle.si_defs.specs.Entries.{whole_of};
+ghost use Rattle.si_flat.specs.Flattened.{is_positive, IsEnoughFor};
 ghost use Rattle.si_flat.specs.Flattening.{owners_variable, met_names, met_extra, room_of, walk_state, MayMeet, Flattens, Fits, WritesEntry, term_piece, terms_piece};
 
 use crate::met::{FIRST_EXTRA, Met};

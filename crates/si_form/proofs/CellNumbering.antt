@@ -5,7 +5,7 @@ use Rattle.std.specs.Prelude.{slice_get}
 use Rattle.std.proofs.lemmas.Option.{same_Some}
 use Rattle.si_defs.specs.Substitutions.{IsAmong}
 use Rattle.si_defs.specs.Terms as terms
-use Rattle.si_defs.proofs.ListLaws.{same_head, same_tail}
+use Rattle.si_defs.proofs.ListLaws.{same_first, same_tail}
 use Rattle.si_flat.specs.declared.Cell.{Cell}
 use Rattle.si_flat.specs.declared.Cell.TheVariants as cell
 use Rattle.si_flat.specs.Cells.{Variable, query, entry, ind, Term, Terms, variable_cell, cells_of, cells_of_all, IsSound, AreSound, StandsFor, join}
@@ -85,7 +85,7 @@ module _ (slots : Slots) (classes : List ℕ) (cells : List Cell) (nodes1 nodes2
       by : (u : Term) → drop at cells ≡ cells_of u ++ found.after → IsSound u → HaveRow slots f known nodes2 cells at (n ∷ numbers2)
       by (terms.var x) from sound =
           let whole : c ∷ drop (at + 1) cells ≡ variable_cell x ∷ found.after = sym place ∙ from in
-          let head : c ≡ variable_cell x = same_head whole in
+          let head : c ≡ variable_cell x = same_first whole in
           let own = variable_numbered slots classes nodes1 nodes2 numbers1 numbers2 x n (subst (λ d. NumbersCell slots classes nodes1 nodes2 numbers1 numbers2 d n) head numbered) in
           let here : drop at cells ≡ variable_cell x ∷ drop (at + 1) cells = place ∙ ap (λ d. d ∷ drop (at + 1) cells) head in
           let in_x = in_range-variable slots x (subst (AreInRange slots) here (in_range_dropped slots cells at range)).0 in
@@ -103,7 +103,7 @@ module _ (slots : Slots) (classes : List ℕ) (cells : List Cell) (nodes1 nodes2
           }
       by (terms.app s us) from sound =
           let whole : c ∷ drop (at + 1) cells ≡ cell.App s.number s.arity (1 + terms.sizes us) ∷ (cells_of_all us ++ found.after) = sym place ∙ from in
-          let head : c ≡ cell.App s.number s.arity (1 + terms.sizes us) = same_head whole in
+          let head : c ≡ cell.App s.number s.arity (1 + terms.sizes us) = same_first whole in
           let parts = splits us h.row found.after sound.1 h.sound (sym (same_tail whole) ∙ h.cells_are) in
           let applies : Applies nodes1 nodes2 numbers1 numbers2 s n = subst (λ d. NumbersCell slots classes nodes1 nodes2 numbers1 numbers2 d n) head numbered in
           let r = applies slots f h.known' us parts.rest h.grows.nodes_are (subst (HaveClasses f h.known' numbers1) parts.row_is h.numbers_are) sound.0 in

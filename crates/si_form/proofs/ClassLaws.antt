@@ -22,7 +22,7 @@ use Rattle.si_form.specs.Ordering.{uses_at, list_or_none, IsListed, IsOpen, AreF
 use Rattle.si_form.specs.Uses.{used_in, UsesBelow}
 use Rattle.si_defs.proofs.ListLaws as members
 use Rattle.si_form.proofs.NodeLaws.{grows, still_known}
-use Rattle.si_form.proofs.UsesLaws.{listed_inside, listed_of_bound, range_slots}
+use Rattle.si_form.proofs.UsesLaws.{listed_inside, bound_of_listed, listed_of_bound, range_slots}
 
 -- ---- single classes
 pub singles_begin : (slots : Slots) (nodes : List Node) (classes : List ℕ) → nodes ≡ [] → classes ≡ [] → HasSingles slots nodes classes 0
@@ -104,18 +104,10 @@ module _ {A : Type 0} (slots : Slots) (pairs : Pairs) (lists : List (Option (Vec
     pub slot_inside : slot < slot_count slots
     slot_inside = listed_inside slots pairs lists long below bindings slot (open_at (uses_at lists) [] left' slot h.done ordered_on.next).listed
 
-    pub classing_skips : value_at pairs slot ≡ None → IsClassing (uses_at lists) slots pairs nodes classes left'
-    classing_skips unbound = record {
-      done = slot ∷ h.done;
-      ordered = ordered_on;
-      long = h.long;
-      knows = λ f solves leaves.
-          let r = h.knows f solves leaves in (
-            r.0,
-            r.1,
-            (λ y less which. r.2 y less (elim which [ inl e ↦ inl e | inr a ↦ elim a [ inl e ↦ inl (ap (value_at pairs) (sym e) ∙ unbound) | inr b ↦ inr b ] ])),
-          );
-    }
+    pub left_bound : value_at pairs slot ≡ None → ⊥
+    left_bound unbound =
+        let bound = bound_of_listed slots pairs lists long below bindings slot (open_at (uses_at lists) [] left' slot h.done ordered_on.next).listed in
+        let bad : None ≡ Some bound.0 = sym unbound ∙ bound.1 in cc
 
     pub classing_more : (new : List Node) (classes' : List ℕ) (n : ℕ) (v : Bor (List Cell)) → value_at pairs slot ≡ Some v → HasClass nodes new slots classes v.now n → classes' ≡ set classes slot n → IsClassing (uses_at lists) slots pairs new classes' left'
     classing_more new classes' n v bound numbered changed = subst (λ l. IsClassing (uses_at lists) slots pairs new l left') (sym changed) (record {

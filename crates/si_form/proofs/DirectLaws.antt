@@ -15,13 +15,14 @@ use Rattle.si_flat.specs.declared.Cell.TheVariants as cell
 use Rattle.si_flat.specs.Cells.{Symbol, Variable, query, entry, ind, Term, Terms, variable_cell, cells_of, cells_of_all, IsSound, StandsFor}
 use Rattle.si_trail.specs.Trails.{value_at}
 use Rattle.si_unify.specs.declared.slots.Slots.{Slots}
-use Rattle.si_unify.specs.Solving.{Pairs, slot_count, slot_of, variable_of, CellIsInRange, Equalizes, IsBinding, IsPieceOf}
-use Rattle.si_unify.specs.Spots.{cell_slot, IsUnbound}
+use Rattle.si_unify.specs.Solving.{Pairs, slot_count, slot_of, variable_of, IsInRange, CellIsInRange, Equalizes, IsBinding, IsPieceOf}
+use Rattle.si_unify.specs.Spots.{cell_slot, IsUnbound, CellIsUnbound}
 use Rattle.si_unify.proofs.Places as places
 use Rattle.si_unify.proofs.Places.{whole_at, cell-at, first_cell, in_range-variable, variable_of-slot_of, slot_variable}
 use Rattle.si_unify.proofs.Binding.{slot_below}
 use Rattle.si_unify.proofs.Meeting.{slot_of-cell}
-use Rattle.si_form.specs.Direct.{CellIsUnbound, head_slot, IsDirect, AreDirect, BecomesThat, IsFirst, led_variable, leading, renamed, AreRenamed}
+use Rattle.si_unify.proofs.Solutions.{of_slot}
+use Rattle.si_form.specs.Direct.{head_slot, IsDirect, AreDirect, BecomesThat, IsFirst, led_variable, leading, renamed, AreRenamed}
 use Rattle.si_form.specs.Folding.{leader, variable_or, folded, folded_all}
 use Rattle.si_form.specs.Unifying.{IsApplication, StaysFree, right_side, IsToBind, IsRightSide, IsGeneral, HasRightSide}
 use Rattle.si_form.proofs.CanonicalLaws.{stays}
@@ -76,6 +77,32 @@ cell_variable slots (cell.App s a n) j range e = cc
 cell_variable slots (cell.Query n) j range e = of_variable slots (query n) j range (same_Some j n e)
 cell_variable slots (cell.Entry n) j range e = of_variable slots (entry n) j range (same_Some j (slots.query + n) e)
 cell_variable slots (cell.Ind n) j range e = of_variable slots (ind n) j range (same_Some j (slots.query + slots.entry + n) e)
+
+-- a variable, from its cell
+pub of_query : (x : Variable) (n : ℕ) → variable_cell x ≡ cell.Query n → x ≡ query n
+of_query (query m) n e = cc
+of_query (entry m) n e = cc
+of_query (ind m) n e = cc
+
+pub of_entry : (x : Variable) (n : ℕ) → variable_cell x ≡ cell.Entry n → x ≡ entry n
+of_entry (query m) n e = cc
+of_entry (entry m) n e = cc
+of_entry (ind m) n e = cc
+
+pub no_symbol : (x : Variable) (s a len : ℕ) → variable_cell x ≡ cell.App s a len → ⊥
+no_symbol (query m) s a len e = cc
+no_symbol (entry m) s a len e = cc
+no_symbol (ind m) s a len e = cc
+
+of_ind : (x : Variable) (n : ℕ) → variable_cell x ≡ cell.Ind n → x ≡ ind n
+of_ind (query m) n e = cc
+of_ind (entry m) n e = cc
+of_ind (ind m) n e = cc
+
+-- where there are no indicators, none has a slot
+pub no_indicator : (slots : Slots) (slot n : ℕ) → slots.inds ≡ 0 → slot < slot_count slots → variable_cell (variable_of slots slot) ≡ cell.Ind n → ⊥
+no_indicator slots slot n none less e =
+    let range : n < slots.inds = subst (IsInRange slots) (of_ind (variable_of slots slot) n e) (of_slot slots slot less).range in omega (arith, none, range)
 
 -- ---- values
 module _ (slots : Slots) (pairs : Pairs) (bindings : AllByRecursion (IsBinding slots) pairs) where

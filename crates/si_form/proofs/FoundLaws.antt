@@ -13,7 +13,7 @@ use Rattle.si_unify.specs.Solving.{Pairs, slot_count, variable_of}
 use Rattle.si_form.specs.declared.classes.Node.{Node}
 use Rattle.si_form.specs.Classes.{HasClasses}
 use Rattle.si_form.specs.Folding.{leader, variable_or, folded, folded_all, AreClasses, AreLeaders, HasTerms, Folded, IsFolding, CanFold, HasFolded}
-use Rattle.si_form.specs.Unifying.{IsApplication, StaysFree, IsToBind, IsRightSide, IsGeneral, HasGeneral, AreFound, IsBoundTo, HasRightSide, HaveRightSides}
+use Rattle.si_form.specs.Unifying.{IsApplication, StaysFree, IsToBind, IsRightSide, IsGeneral, AreFound, IsBoundTo, HasRightSide, HaveRightSides}
 use Rattle.si_form.specs.Ordering.{list_of}
 use Rattle.si_form.proofs.UsesLaws.{get_or_front, get_or_last}
 use Rattle.si_form.proofs.RightSides.{led, none_led, no_leader, none_longer, right_of_follower, right_of_leader}

@@ -481,6 +481,9 @@ listed_at lists k o v less is some = ap list_of (get_or_default lists k None o l
 pub unlisted_at : {A : Type 0} (lists : List (Option (Vec ℕ A))) (k : ℕ) (o : Option (Vec ℕ A)) → k < length lists → o ≡ get_or lists k o → o ≡ None → uses_at lists k ≡ None
 unlisted_at lists k o less is none = ap list_of (get_or_default lists k None o less ∙ sym is ∙ none)
 
+pub used_next : {A : Type 0} (lists : List (Option (Vec ℕ A))) (k : ℕ) (o : Option (Vec ℕ A)) (v : Vec ℕ A) → {xs : List ℕ} → k < length lists → o ≡ get_or lists k o → o ≡ Some v → xs ≡ v.items → list_or_none (uses_at lists k) ≡ xs
+used_next lists k o v less is some same = ap list_or_none (listed_at lists k o v less is some) ∙ sym same
+
 pub not_listed : (used : ℕ → Option (List ℕ)) (k : ℕ) → used k ≡ None → IsListed used k → ⊥
 not_listed used k none l = let bad : None ≡ Some l.0 = sym none ∙ l.1 in cc
 
@@ -488,8 +491,11 @@ module _ (used : ℕ → Option (List ℕ)) (n : ℕ) (counts free free' order :
   first_left : IsAmong h.rest k
   first_left = ((h.free_is k).0 (subst (λ l. IsAmong l k) (sym is) (inl refl))).0
 
+  pub first_listed : IsListed used k
+  first_listed = all_at (IsListed used) h.rest k h.listed first_left
+
   pub first_inside : HasNoCircle used n → k < n
-  first_inside circle = circle.inside k (all_at (IsListed used) h.rest k h.listed first_left)
+  first_inside circle = circle.inside k first_listed
 
   pub fewer_left : (order' : List ℕ) → order' ≡ order ++ k ∷ [] → n - length order' < n - length order
   fewer_left order' e = omega (arith, h.few, length_without k h.rest first_left, ap length e, length-append order (k ∷ []))

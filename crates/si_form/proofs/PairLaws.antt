@@ -1,5 +1,5 @@
 -- Slices of cells, and lists of bindings, read from the front.
-use Rattle.std.proofs.Common.{◌≡◌, ◌≢◌, ℕ, ◌+◌, ◌-◌, ◌≤◌, inl, inr, List, [], ◌∷◌, ◌++◌, length, length-append, take, drop, append_assoc, suc, zero, refl, sym, ◌∙◌, ap, subst, arith, Some, None}
+use Rattle.std.proofs.Common.{◌≡◌, ◌≢◌, ℕ, ◌+◌, ◌-◌, ◌≤◌, inl, inr, List, [], ◌∷◌, ◌++◌, length, length-append, take, drop, append_assoc, suc, zero, refl, sym, ◌∙◌, ap, subst, arith, Some}
 use Rattle.std.proofs.lemmas.Bool.Decides.{eqb_tells}
 use Rattle.std.proofs.lemmas.List.{take_all, length-drop}
 use Rattle.std.proofs.Math.Seq.{take-append_seam, drop-append_seam}
@@ -78,7 +78,3 @@ module _ {T : Type 0} where
         | inl h ↦ absurd (all_got (λ q. q.0 ≢ slot) pairs n (slot, s.0) (apart_from pairs slot (ap (value_at pairs) (sym h.1) ∙ distinct.0)) s.1 refl)
         | inr h ↦ pair_at pairs n slot v distinct.1 s (rw h.0 at bound)
       ]
-
-  -- the slot of a pair is bound
-  pub slot_bound : (pairs : List (ℕ × T)) (n slot : ℕ) → IsSlotOf pairs n slot → value_at pairs slot ≡ None → ⊥
-  slot_bound pairs n slot s none = all_got (λ q. q.0 ≢ slot) pairs n (slot, s.0) (apart_from pairs slot none) s.1 refl

@@ -12,9 +12,9 @@ use Rattle.si_flat.specs.Cells.{Variable, Term, variable_cell, IsWhole}
 use Rattle.si_trail.specs.Trails.{value_at, HasDistinctSlots}
 use Rattle.si_unify.specs.declared.slots.Slots.{Slots}
 use Rattle.si_unify.specs.Solving.{Pairs, slot_count, variable_of, CellIsInRange, AreInRange, IsAcyclic, IsBinding}
-use Rattle.si_unify.specs.Spots.{cell_slot, IsUnbound}
+use Rattle.si_unify.specs.Spots.{cell_slot, IsUnbound, CellIsUnbound}
 use Rattle.si_unify.proofs.Places as places
-use Rattle.si_form.specs.Direct.{CellIsUnbound, head_slot, IsFirstAmong, IsFirst, led_variable, renamed, AreRenamed, AreDirect, AreApplied, CanBeReadOff}
+use Rattle.si_form.specs.Direct.{head_slot, IsFirstAmong, IsFirst, led_variable, renamed, AreRenamed, AreDirect, AreApplied, CanBeReadOff}
 use Rattle.si_form.specs.Unifying.{right_side, IsGeneral, HasRightSide, AreFree}
 use Rattle.si_form.proofs.DownLaws.{no_cell}
 use Rattle.si_form.proofs.PairLaws.{all_more, all_begins, all_ends}

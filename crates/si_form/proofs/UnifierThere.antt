@@ -20,7 +20,7 @@ use Rattle.si_form.specs.Answers.{StandsForPair, StandsForList}
 use Rattle.si_flat.specs.Flattening.{owners_variable}
 use Rattle.std.proofs.lemmas.List.{take_all, take_more, get_or_past}
 use Rattle.std.proofs.lemmas.Option.{get_or_from_slice_get, slice_get_read}
-use Rattle.si_defs.proofs.ListLaws.{all_at, all_from, all_front, all_back, among_parts, all_get}
+use Rattle.si_defs.proofs.ListLaws.{all_at, all_from, all_front, among_parts, all_get}
 use Rattle.si_form.proofs.NodeLaws.{slot_again}
 use Rattle.si_form.proofs.UsesLaws.{slots_append, get_or_front, get_or_last}
 use Rattle.si_form.proofs.RightSides.{right_is, right_of_leader, LeadsItself}
@@ -239,11 +239,6 @@ module _ {A : Type 0} (slots : Slots) (rights : List (Option (Vec Cell A))) (ks 
     front_binds : (f : Variable → Term) → AllByRecursion (IsToBind slots f) (take (i + 1) ks) → AllByRecursion (IsToBind slots f) (take i ks)
     front_binds f binds = all_front (IsToBind slots f) (take i ks) (k ∷ []) (subst (AllByRecursion (IsToBind slots f)) taken binds)
 
-    pub lists_skip : k < length rights → list_of (get_or rights k None) ≡ None → ListsBindings slots rights (take (i + 1) ks) bs
-    lists_skip inside none f sides binds =
-        let last = all_back (IsToBind slots f) (take i ks) (k ∷ []) (subst (AllByRecursion (IsToBind slots f)) taken binds) in
-        absurd (subst (IsRightSide slots f k) none (sides k inside) last.0)
-
     pub lists_more : (cells : List Cell) (b : Binding) (new : List Binding) → k < length rights → list_of (get_or rights k None) ≡ Some cells → variable_of slots k ≡ owners_variable b.owner b.slot → b.value ≡ cells → new ≡ bs ++ b ∷ [] → ListsBindings slots rights (take (i + 1) ks) new
     lists_more cells b new inside some left value_is is' f sides binds =
         let side = subst (IsRightSide slots f k) some (sides k inside) in
@@ -256,6 +251,10 @@ module _ {A : Type 0} (slots : Slots) (rights : List (Option (Vec Cell A))) (ks 
 
   pub listed_at : (i k : ℕ) → i < length ks → k ≡ get_or ks i 0 → length rights ≡ slot_count slots → AreListed slots rights ks → k < length rights
   listed_at i k less is long h = let b = all_get (IsToBind slots h.0) ks i 0 h.2 less in omega (arith, b.0, is, long)
+
+  pub listed_some : (i k : ℕ) → i < length ks → k ≡ get_or ks i 0 → AreListed slots rights ks → k < length rights → list_of (get_or rights k None) ≡ None → ⊥
+  listed_some i k less is h inside none =
+      subst (IsRightSide slots h.0 k) none (h.1 k inside) (subst (IsToBind slots h.0) (sym is) (all_get (IsToBind slots h.0) ks i 0 h.2 less))
 
   pub whole_cells : (k : ℕ) (cells : List Cell) → k < length rights → list_of (get_or rights k None) ≡ Some cells → AreListed slots rights ks → IsWhole cells
   whole_cells k cells less some h = let side = subst (IsRightSide slots h.0 k) some (h.1 k less) in (right_side slots h.0 k, side.1)
@@ -276,8 +275,8 @@ module _ {A B : Type 0} (slots : Slots) (rights : List (Option (Vec Cell A))) (l
   pub all_listed : (f : Variable → Term) → AreRightSides slots f rights → (ks : List ℕ) → AreOrdered (uses_at lists) ks → AreListed slots rights ks
   all_listed f sides ks ordered = (f, sides, all_bound f sides ks ordered)
 
-  pub whole_of : (f : Variable → Term) → AreRightSides slots f rights → ImagesStay slots f → (ks : List ℕ) (bindings : List Binding) → AreOrdered (uses_at lists) ks → ListsBindings slots rights ks bindings → IsWholeList slots f bindings
-  whole_of f sides stays ks bindings ordered h = record {
+  pub is_whole_list : (f : Variable → Term) → AreRightSides slots f rights → ImagesStay slots f → (ks : List ℕ) (bindings : List Binding) → AreOrdered (uses_at lists) ks → ListsBindings slots rights ks bindings → IsWholeList slots f bindings
+  is_whole_list f sides stays ks bindings ordered h = record {
     used = λ k. uses_at lists k;
     ks = ks;
     ordered = ordered;

@@ -1,5 +1,5 @@
 -- How far a folded term has been written.
-use Rattle.std.proofs.Common.{◌≡◌, ℕ, ◌+◌, ◌-◌, ◌^◌, ◌<◌, ◌≤◌, List, [], ◌∷◌, ◌++◌, length, get_or, refl, sym, ◌∙◌, ap, subst, arith, append_assoc, append-nil, length-append, Option, Some, None}
+use Rattle.std.proofs.Common.{◌≡◌, ℕ, ◌+◌, ◌-◌, ◌^◌, ◌<◌, ◌≤◌, List, [], ◌∷◌, ◌++◌, length, get_or, refl, sym, ◌∙◌, ap, subst, arith, append_assoc, append-nil, length-append, Some, None}
 use Rattle.std.specs.Prelude.{slice_get}
 use Rattle.std.specs.List.{AllByRecursion}
 use Rattle.std.proofs.lemmas.Option.{slice_get_within, get_or_from_slice_get, same_Some, none-some}
@@ -175,9 +175,12 @@ symbol_written folding left left' cells cells' class a b size h size_is is slots
       r.1,
     )
 
-pub none_left : (slots : Slots) (folding : Folded) → IsFolding folding → (class : ℕ) (left : List ℕ) (cells : List Cell) (k : ℕ) → left ≡ [] → IsWriting slots folding class cells left k → HasFolded slots folding class cells
-none_left slots folding folds class left cells k none h f known t can =
-    written_none slots folding folds class f known t can cells k (subst (λ l. HasWritten slots f known t cells l k) none (h f known t can))
+-- while there are fewer cells than the whole has, classes are left
+pub some_left : (slots : Slots) (folding : Folded) → IsFolding folding → (class : ℕ) (left : List ℕ) (cells : List Cell) (k : ℕ) → left ≡ [] → k < get_or folding.sizes class 0 → IsWriting slots folding class cells left k → (f : Variable → Term) × (known : List Term) × (t : Term) × CanFold slots folding class f known t → ⊥
+some_left slots folding folds class left cells k none less h (f, known, t, can) =
+    let written : HasWritten slots f known t cells [] k = subst (λ l. HasWritten slots f known t cells l k) none (h f known t can) in
+    let size = size_at slots folding folds class f known t can class t can.class_is can.fits in
+    omega (arith, less, size, written.count_is, ap length (written_none slots folding folds class f known t can cells k written), length-cells_of (folded slots f t))
 
 -- what is asked has a witness
 pub record IsAsked (slots : Slots) (folding : Folded) (next : ℕ) : Type 0 where

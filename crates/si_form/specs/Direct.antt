@@ -9,13 +9,9 @@ use Rattle.si_flat.specs.Cells.{Variable, query, entry, ind, Term, variable_cell
 use Rattle.si_trail.specs.Trails.{value_at}
 use Rattle.si_unify.specs.declared.slots.Slots.{Slots}
 use Rattle.si_unify.specs.Solving.{Pairs, variable_of, IsBinding, IsPieceOf}
-use Rattle.si_unify.specs.Spots.{cell_slot, IsUnbound}
+use Rattle.si_unify.specs.Spots.{cell_slot, CellIsUnbound}
 use Rattle.si_form.specs.Folding.{leader}
 use Rattle.si_form.specs.Unifying.{IsGeneral, HasGeneral}
-
--- the cell isn't that of a variable which is bound
-abbrev pub CellIsUnbound : Slots → Pairs → Cell → Type 0
-CellIsUnbound slots pairs c = IsUnbound pairs (cell_slot slots c)
 
 -- the cells are no slice of the value of another slot
 abbrev pub StandsApart : Pairs → ℕ → List Cell → Type 0

@@ -75,11 +75,9 @@ fn number_of(
 {
     match cell {
         Cell::App { sym, arity, .. } => apply(nodes, numbers, sym, arity),
-        Cell::Query(number) => Ok(classes[number as usize]),
-        Cell::Entry(number) => Ok(classes[slots.query as usize + number as usize]),
-        Cell::Ind(number) => Ok(
-            classes[slots.query as usize + slots.entry as usize + number as usize],
-        ),
+        Cell::Query(number) => Ok(classes[slots.query_slot(number)]),
+        Cell::Entry(number) => Ok(classes[slots.entry_slot(number)]),
+        Cell::Ind(number) => Ok(classes[slots.indicator_slot(number)]),
     }
 }
 
@@ -149,7 +147,7 @@ pub(crate) fn find_classes<'a>(
     // From the last to the first: the variables in a value come before its own.
     while let Some(slot) = left.pop() {
         let Some(value) = trail.get(slot) else {
-            continue;
+            unreachable!()
         };
         let number = class_of(alloc, &mut nodes, slots, &of_slots, value)?;
         change(&mut of_slots, slot, number);

@@ -1,19 +1,20 @@
 // The canonical list where it can be read off the bindings.
 // No bound variable stands in a value then, and no value that is an application in another. So each
 // application leads its class alone, and variables that become the same are led by the first.
-ghost use Rattle.std.specs.Prelude.{◌≡◌, ◌<◌, false, IsTrue, IfOk, IfSome, None, Some, length};
+ghost use Rattle.std.specs.Prelude.{◌≡◌, ◌<◌, ◌↔◌, false, IsTrue, IfOk, IfSome, None, Some, length};
 ghost use Rattle.std.specs.List.{AllByRecursion};
 ghost use Rattle.si_flat.specs.Flattening.{owners_variable};
 ghost use Rattle.si_trail.specs.Trails.{value_at, HasDistinctSlots};
 ghost use Rattle.si_unify.specs.Solving.{slot_count, variable_of, AreInRange, IsAcyclic, IsBinding, IsPieceOf};
-ghost use Rattle.si_form.specs.Direct.{CellIsUnbound, StandsApart, head_slot, IsDirect, AreDirect, AreApplied, CanBeReadOff, BecomesThat, IsFirst, AreRenamed};
+ghost use Rattle.si_unify.specs.Spots.{CellIsUnbound};
+ghost use Rattle.si_form.specs.Direct.{StandsApart, head_slot, IsDirect, AreDirect, AreApplied, CanBeReadOff, BecomesThat, IsFirst, AreRenamed};
 ghost use Rattle.si_form.specs.Unifying.{HasRightSide, ListsAllBindings, AreFree};
 
 use crate::matching::are_same;
 use crate::solution::{Binding, Solution};
 use si_flat::{Cell, Flat, Owner};
 use si_trail::Trail;
-use si_unify::Slots;
+use si_unify::{Slots, are_unbound};
 use std::alloc::{AllocError, Global};
 
 // Each value is compared with each, so there must be few of them, with few cells.
@@ -28,18 +29,19 @@ pub(crate) fn binding(slots: Slots, slot: usize, value: Flat) -> Binding
     ensures left { variable_of slots slot ≡ owners_variable result.owner result.slot }
     ensures right { result.value ≡ value }
 {
-    let queries = slots.query as usize;
-    if slot < queries {
-        return Binding {
+    match slots.cell_of(slot) {
+        Cell::Query(number) => Binding {
             owner: Owner::Query,
-            slot: slot as u32,
+            slot: number,
             value,
-        };
-    }
-    Binding {
-        owner: Owner::Entry,
-        slot: (slot - queries) as u32,
-        value,
+        },
+        Cell::Entry(number) => Binding {
+            owner: Owner::Entry,
+            slot: number,
+            value,
+        },
+        Cell::App { .. } => unreachable!(),
+        Cell::Ind(_) => unreachable!(),
     }
 }
 
@@ -53,7 +55,7 @@ fn is_small<'a>(trail: &Trail<&'a [Cell]>, count: usize) -> bool
     let mut room = MOST_CELLS;
     for n in 0..count {
         let Some(value) = trail.get(trail.slot(n)) else {
-            return false;
+            unreachable!()
         };
         let Some(left) = room.checked_sub(value.len()) else {
             return false;
@@ -91,24 +93,9 @@ fn stands_apart<'a>(trail: &Trail<&'a [Cell]>, slot: usize, value: &[Cell]) -> b
             continue;
         }
         let Some(cells) = trail.get(other) else {
-            return false;
+            unreachable!()
         };
         if has_piece(cells, value) {
-            return false;
-        }
-    }
-    true
-}
-
-// Whether no variable among the cells is bound.
-fn are_unbound<'a>(slots: &Slots, trail: &Trail<&'a [Cell]>, cells: &[Cell]) -> bool
-    ensures { IsTrue result → AllByRecursion (CellIsUnbound slots.now trail.now.pairs) cells.now }
-{
-    for &cell in cells {
-        let Some(slot) = slots.slot_of(cell) else {
-            continue;
-        };
-        if trail.get(slot).is_some() {
             return false;
         }
     }
@@ -121,7 +108,7 @@ fn is_direct<'a>(slots: &Slots, trail: &Trail<&'a [Cell]>, slot: usize, value: &
     requires { 0 < length value.now }
     ensures { IsTrue result → IsDirect slots.now trail.now.pairs (slot, value.entry) }
 {
-    if !are_unbound(slots, trail, value) {
+    if !are_unbound(trail, slots, value) {
         return false;
     }
     let Some(_) = slots.slot_of(value[0]) else {
@@ -138,7 +125,7 @@ fn are_direct<'a>(slots: &Slots, trail: &Trail<&'a [Cell]>) -> bool
     for n in 0..trail.mark() {
         let slot = trail.slot(n);
         let Some(value) = trail.get(slot) else {
-            return false;
+            unreachable!()
         };
         if !is_direct(slots, trail, slot, value) {
             return false;
@@ -159,7 +146,7 @@ fn first_of<'a>(slots: &Slots, trail: &Trail<&'a [Cell]>, slot: usize) -> usize
             continue;
         }
         let Some(value) = trail.get(other) else {
-            continue;
+            unreachable!()
         };
         let Some(next) = slots.slot_of(value[0]) else {
             continue;
@@ -260,11 +247,11 @@ fn side<'a>(
 // Whether no value is a variable.
 fn are_applied<'a>(slots: &Slots, trail: &Trail<&'a [Cell]>) -> bool
     requires { AllByRecursion (IsBinding slots.now) trail.now.pairs }
-    ensures { IsTrue result → AreApplied slots.now trail.now.pairs }
+    ensures { IsTrue result ↔ AreApplied slots.now trail.now.pairs }
 {
     for n in 0..trail.mark() {
         let Some(value) = trail.get(trail.slot(n)) else {
-            return false;
+            unreachable!()
         };
         if slots.slot_of(value[0]).is_some() {
             return false;

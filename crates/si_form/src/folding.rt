@@ -107,7 +107,7 @@ fn sizes(
     let mut sizes = Vec::new(alloc);
     for n in 0..nodes.len() {
         let Some(&node) = nodes.get_index(n) else {
-            continue;
+            unreachable!()
         };
         let size = node_size(&sizes, leaders, node);
         sizes.push(size)?;
@@ -186,7 +186,7 @@ impl Folding {
         self.write_symbol(&mut left, &mut cells, class)?;
         for _ in 1..self.sizes[class] {
             let Some(next) = left.pop() else {
-                return Ok(cells);
+                unreachable!()
             };
             let Some(slot) = self.leader_of(next) else {
                 self.write_symbol(&mut left, &mut cells, next)?;

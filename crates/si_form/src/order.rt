@@ -2,7 +2,7 @@
 ghost use Rattle.std.specs.Prelude.{◌≡◌, ℕ, ◌+◌, ◌<◌, ◌^◌, ◌↔◌, [], List, length, set, slice_index_or, IfOk, OnOk};
 ghost use Rattle.std.specs.List.{AllByRecursion};
 ghost use Rattle.si_defs.specs.Substitutions.{IsAmong};
-ghost use Rattle.si_form.specs.Ordering.{uses_at, list_or_none, times_among, times_used, listed_below, HasNoCircle, AreOrdered, IsPartlyOrdered, IsListedFree};
+ghost use Rattle.si_form.specs.Ordering.{uses_at, times_among, times_used, listed_below, HasNoCircle, AreOrdered, IsPartlyOrdered, IsListedFree};
 
 use std::alloc::{AllocError, Global};
 use std::collections::BTreeSet;
@@ -110,17 +110,6 @@ fn release(
     Ok(())
 }
 
-// The list of a number; empty where it has none.
-fn list_at(lists: &[Option<Vec<usize>>], number: usize) -> &[usize]
-    requires { number < length lists.now }
-    ensures { result.now ≡ list_or_none (uses_at lists.now number) }
-{
-    match &lists[number] {
-        Some(used) => used,
-        None => &[],
-    }
-}
-
 /// The numbers that have a list, in order: at each place stands the least that no other from there
 /// on uses.
 pub(crate) fn order(alloc: Global, lists: &[Option<Vec<usize>>]) -> Result<Vec<usize>, AllocError>
@@ -132,7 +121,10 @@ pub(crate) fn order(alloc: Global, lists: &[Option<Vec<usize>>]) -> Result<Vec<u
     let mut order = Vec::new(alloc);
     while let Some(next) = free.pop_first() {
         order.push(next)?;
-        release(lists, &mut counts, &mut free, list_at(lists, next))?;
+        let Some(used) = &lists[next] else {
+            unreachable!()
+        };
+        release(lists, &mut counts, &mut free, used)?;
     }
     Ok(order)
 }

@@ -146,7 +146,7 @@ fn list(
     let mut solution = Solution::new(alloc);
     for &slot in order {
         let Some(cells) = &rights[slot] else {
-            continue;
+            unreachable!()
         };
         let value = Flat::from_cells(alloc, cells)?;
         solution.push(binding(*slots, slot, value))?;

@@ -10,6 +10,6 @@ use Rattle.si_sign.specs.declared.faults.AddFault.TheVariants.{Taken, Clash, Ful
 pub refused : (rules : Rules) (state : List Clause) (clause : Clause) (why : AddFault) → Rejects rules state clause why → (why ≡ Memory → ⊥)
     → (refusal : Refusal) × Refuses rules state clause refusal
 refused rules state clause Taken rejects other = (taken, rejects)
-refused rules state clause (Clash c) rejects other = (misused c.entry rejects.0 rejects.1, rejects.2)
+refused rules state clause (Clash c) rejects other = (misused c.occurrence rejects.0 rejects.1, rejects.2)
 refused rules state clause (Full n most) rejects other = (full n, rejects.0)
 refused rules state clause Memory rejects other = absurd (other refl)

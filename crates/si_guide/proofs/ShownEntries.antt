@@ -1,10 +1,9 @@
 -- What is shown of an entry can be printed, by the numbers of the table that it was found in.
 use Rattle.std.proofs.Common.{◌≡◌, subst}
 use Rattle.si_defs.specs.Clauses.{Pattern}
-use Rattle.si_defs.specs.Entries.{Entry, pattern_entry}
+use Rattle.si_defs.specs.Entries.{Entry, pattern_entry, whole_of}
 use Rattle.si_defs.specs.declared.Relation.{Relation}
 use Rattle.si_defs.specs.Symbols.{Numbering}
-use Rattle.si_flat.specs.Flattened.{whole_of}
 use Rattle.si_index.specs.declared.found.Shown.{Shown}
 use Rattle.si_index.specs.Showing.{ShowsEntry}
 use Rattle.si_index.proofs.ShownNames.{query_named, entry_named}

@@ -10,7 +10,7 @@ ghost use Rattle.si_index.specs.Showing.{ShowsEntry};
 
 use si_index::{Index, Shown};
 use si_io::{Failed, Sink};
-use si_reply::put_solution;
+use si_reply::{Naming, put_solution};
 
 /// Writes the canonical list of what an index showed.
 pub fn print_shown<K: Sink>(sink: &mut K, index: &Index, shown: &Shown) -> Result<(), Failed>
@@ -21,12 +21,11 @@ pub fn print_shown<K: Sink>(sink: &mut K, index: &Index, shown: &Shown) -> Resul
         → Sends result (solution_text variable_text shows.solution)
         (K.shown sink.old) (K.shown sink.new) }
 {
-    put_solution(
-        sink,
-        &shown.solution,
-        index.signature(),
-        &shown.extra,
-        &shown.query_names,
-        &shown.entry_names,
-    )
+    let naming = Naming {
+        table: index.signature(),
+        extra: &shown.extra,
+        query_names: &shown.query_names,
+        entry_names: &shown.entry_names,
+    };
+    put_solution(sink, &naming, &shown.solution)
 }

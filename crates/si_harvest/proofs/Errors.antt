@@ -9,14 +9,14 @@ use Rattle.si_steps.specs.Loads.{MayFetch}
 use Rattle.si_io.specs.Counts.{raised_by}
 use Rattle.si_io.specs.Library.{Counts}
 use Rattle.si_harvest.specs.declared.faults.HarvestFault.{HarvestFault}
-use Rattle.si_harvest.specs.Faults.{Explains, HasFaultCause, HasLoadCause}
+use Rattle.si_harvest.specs.Faults.{NamesWhy, HasFaultCause, HasLoadCause}
 use Rattle.si_harvest.specs.Opened.{HasFault, HasFetched}
 use Rattle.si_harvest.specs.Loading.{ReadsFiles}
 
--- the fault is told for another reason
-pub blames_weaker : (rules : Rules) (e : HarvestFault) (P Q : Fault → Type 0) → ((f : Fault) → P f → Q f) → Explains rules e P → Explains rules e Q
-blames_weaker rules e P Q f (inl m) = inl m
-blames_weaker rules e P Q f (inr t) = inr (record { fault = t.fault; told = t.told; holds = f t.fault t.holds })
+-- the fault is named for another reason
+pub why_weaker : (rules : Rules) (e : HarvestFault) (P Q : Fault → Type 0) → ((f : Fault) → P f → Q f) → NamesWhy rules e P → NamesWhy rules e Q
+why_weaker rules e P Q f (inl m) = inl m
+why_weaker rules e P Q f (inr t) = inr (record { fault = t.fault; named = t.named; holds = f t.fault t.holds })
 
 -- the same fault
 pub err_again : {T E : Type 0} (r : Result T E) (e : E) (P : E → Type 0) → IsErrAnd r (λ x. x ≡ e) → P e → IfErr r P
@@ -34,8 +34,8 @@ cause_again (Err x) e may_fail before now h c = subst (HasFaultCause may_fail be
 
 -- so a load ends with it
 pub reads_fault : {T : Type 0} (told : Option Files) (bounds : Bounds) (rules : Rules) (file : Bytes) (r : Result T HarvestFault) (e : HarvestFault) (start kept : List Clause) (calls calls_now made : ℕ)
-    → IsErrAnd r (λ x. x ≡ e) → calls_now ≡ raised_by made calls → MayFetch bounds file made → (made ≡ 0) ⊎ HasFetched told bounds rules start file made → Explains rules e (HasFault told bounds rules start file made)
+    → IsErrAnd r (λ x. x ≡ e) → calls_now ≡ raised_by made calls → MayFetch bounds file made → (made ≡ 0) ⊎ HasFetched told bounds rules start file made → NamesWhy rules e (HasFault told bounds rules start file made)
     → ReadsFiles told bounds rules file r start kept calls calls_now
 reads_fault told bounds rules file (Ok x) e start kept calls calls_now made h counted may first f = absurd h
 reads_fault told bounds rules file (Err x) e start kept calls calls_now made h counted may first f =
-    record { made = made; counted = counted; may = may; first = first; right = tt; fault = subst (λ y. Explains rules y (HasFault told bounds rules start file made)) (sym h) f }
+    record { made = made; counted = counted; may = may; first = first; right = tt; fault = subst (λ y. NamesWhy rules y (HasFault told bounds rules start file made)) (sym h) f }

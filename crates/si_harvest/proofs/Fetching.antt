@@ -5,15 +5,15 @@ use Rattle.si_state.specs.Harvest.{Bounds, MayAsk}
 use Rattle.si_steps.specs.Loads.{MayFetch}
 use Rattle.si_io.specs.declared.counts.LibraryCounts.{LibraryCounts}
 use Rattle.si_io.specs.declared.library.Fetched.{Fetched}
-use Rattle.si_io.specs.declared.library.Fetched.TheVariants.{Found, Missing, TooBig, Failed, Memory}
+use Rattle.si_io.specs.declared.library.Fetched.TheVariants.{File, Missing, TooBig, Failed, Memory}
 use Rattle.si_io.specs.Counts.{raised, raised_by, fetch_counted}
-use Rattle.si_io.proofs.Fetching.{HasFetchCause_once}
+use Rattle.si_io.proofs.Fetching.{HasFetchCause_once, same_files}
 use Rattle.si_harvest.specs.declared.reading.Reading.{Reading}
 use Rattle.si_harvest.specs.Opened.{opened, FetchesOnce}
 use Rattle.si_harvest.specs.Stepping.{FetchesOn}
 
 one_call : (answer : Fetched) (before : LibraryCounts) → (fetch_counted answer before).calls ≡ raised before.calls
-one_call Found before = refl
+one_call File before = refl
 one_call Missing before = refl
 one_call TooBig before = refl
 one_call Failed before = refl
@@ -63,4 +63,4 @@ pub further_fetch : (bounds : Bounds) (file : Bytes) (made : ℕ) → MayAsk bou
 further_fetch bounds file made may few = record { most = few; none = λ never. absurd (never may) }
 
 -- what a call that leads to at most one fetch owes: name it in the function's `using`
-pub ruleset counted = (fetches_none, fetches_once)
+pub ruleset counted = (fetches_none, fetches_once, same_files)

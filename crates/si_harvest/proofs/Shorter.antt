@@ -1,8 +1,9 @@
 -- After an item fewer bytes are left.
 use Rattle.std.proofs.Common.{◌≡◌, ◌≤◌, ◌<◌, List, [], ◌∷◌, codes, length, length-append, refl, sym, ap, ◌∙◌, subst, arith}
 use Rattle.std.proofs.lemmas.Bool.{false≢true}
+use Rattle.std.specs.List.{concat}
 use Rattle.si_defs.specs.Bytes.{Bytes}
-use Rattle.si_defs.specs.Tokens.{Token, Spells, NextToken, Begins, joined, lower}
+use Rattle.si_defs.specs.Tokens.{Token, Spells, NextToken, Begins, lower}
 use Rattle.si_defs.specs.Grammar.{Item, clause_item, include_item}
 use Rattle.si_defs.specs.Texts.{BeginsWithItem}
 use Rattle.si_defs.specs.declared.TokenKind.{TokenKind}
@@ -33,7 +34,7 @@ next_shorter bytes t rest n =
       arith,
       some,
       ap (λ l. length l) n.skips.whole,
-      length-append (joined n.skips.blanks) n.place,
+      length-append (concat n.skips.blanks) n.place,
       ap (λ l. length l) n.stands.front,
       length-append n.stands.spelling rest,
     )

@@ -17,11 +17,11 @@ use Rattle.si_harvest.specs.declared.names.NameSet.{NameSet}
 use Rattle.si_harvest.specs.declared.reading.Reading.{Reading}
 use Rattle.si_harvest.specs.declared.faults.HarvestFault.{HarvestFault}
 use Rattle.si_harvest.specs.declared.faults.HarvestFault.TheVariants.{Memory, Syntax, Language}
-use Rattle.si_harvest.specs.Faults.{Explains}
+use Rattle.si_harvest.specs.Faults.{NamesWhy}
 use Rattle.si_harvest.specs.Opened.{is_selected, OpensInside, IsUnopened, FetchesOnce, TriesClause, HasFault, HasFetched}
 use Rattle.si_harvest.specs.Underway.{IsAtPoint, IsUnderway, AreWithin, Lists}
 use Rattle.si_harvest.specs.Stepping.{StepsOn, StepsReading}
-use Rattle.si_harvest.proofs.Errors.{blames_weaker}
+use Rattle.si_harvest.proofs.Errors.{why_weaker}
 use Rattle.si_harvest.proofs.Moves.{at_end, takes, is_refused, is_stuck, enters, is_unopened, still_fetched, once_fetched}
 use Rattle.si_harvest.proofs.Safety.{within_others, within_moved, within_entered, falls_end, falls_item, falls_entered}
 
@@ -33,7 +33,7 @@ module _ (told : Option Files) (bounds : Bounds) (rules : Rules) where
   -- an error that is passed on
   pub steps_fault : (r : Result Bool HarvestFault) (e : HarvestFault) (old new : Reading) (before after : List Clause) → IsErrAnd r (λ x. x ≡ e)
       → ((start : List Clause) (file : Bytes) → IsUnderway told bounds rules start file old before
-      → Explains rules e (HasFault told bounds rules start file new.fetches) × HasFetched told bounds rules start file new.fetches)
+      → NamesWhy rules e (HasFault told bounds rules start file new.fetches) × HasFetched told bounds rules start file new.fetches)
       → StepsReading told bounds rules old new before after r
   steps_fault (Ok x) e old new before after h f = absurd h
   steps_fault (Err x) e old new before after h f = subst (λ y. StepsReading told bounds rules old new before after (Err y)) (sym h) f
@@ -61,11 +61,11 @@ module _ (told : Option Files) (bounds : Bounds) (rules : Rules) where
 
   pub step_refused : (old : Reading) (state : List Clause) (items : List OpenFile) (f : OpenFile) (end : ℕ) (clause : Clause) (made : ℕ) (x : HarvestFault) → old.files.items ≡ items ++ f ∷ []
       → IsItemRead f.bytes.items f.at (clause_item clause) end
-      → Explains rules x (λ fault. (is_selected (items ++ record f { at = end } ∷ []) clause.name ≡ true) × IsRejected rules state clause fault) → made ≡ old.fetches
+      → NamesWhy rules x (λ fault. (is_selected (items ++ record f { at = end } ∷ []) clause.name ≡ true) × IsRejected rules state clause fault) → made ≡ old.fetches
       → (start : List Clause) (file : Bytes) → IsUnderway told bounds rules start file old state
-      → Explains rules x (HasFault told bounds rules start file made) × HasFetched told bounds rules start file made
+      → NamesWhy rules x (HasFault told bounds rules start file made) × HasFetched told bounds rules start file made
   step_refused old state items f end clause made x e r b same start file u = (
-    blames_weaker rules x _ _ (λ fault h. is_refused told bounds rules start file old state items f end clause made fault e r.begins h.0 h.1 same u) b,
+    why_weaker rules x _ _ (λ fault h. is_refused told bounds rules start file old state items f end clause made fault e r.begins h.0 h.1 same u) b,
     still_fetched told bounds rules start file old state made same u,
   )
 
@@ -81,11 +81,11 @@ module _ (told : Option Files) (bounds : Bounds) (rules : Rules) where
 
   pub step_unopened : (old : Reading) (state : List Clause) (items : List OpenFile) (f : OpenFile) (end : ℕ) (name : Bytes) (selection : Selection) (made : ℕ) (x : HarvestFault)
       → old.files.items ≡ items ++ f ∷ [] → IsItemRead f.bytes.items f.at (include_item name selection) end
-      → Explains rules x (IsUnopened told bounds name (items ++ record f { at = end } ∷ []) old.fetches made) → FetchesOnce bounds name (items ++ record f { at = end } ∷ []) old.fetches made
+      → NamesWhy rules x (IsUnopened told bounds name (items ++ record f { at = end } ∷ []) old.fetches made) → FetchesOnce bounds name (items ++ record f { at = end } ∷ []) old.fetches made
       → (start : List Clause) (file : Bytes) → IsUnderway told bounds rules start file old state
-      → Explains rules x (HasFault told bounds rules start file made) × HasFetched told bounds rules start file made
+      → NamesWhy rules x (HasFault told bounds rules start file made) × HasFetched told bounds rules start file made
   step_unopened old state items f end name selection made x e r b once start file u = (
-    blames_weaker rules x _ _ (λ fault h. is_unopened told bounds rules start file old state items f end name selection made fault e r.begins h u) b,
+    why_weaker rules x _ _ (λ fault h. is_unopened told bounds rules start file old state items f end name selection made fault e r.begins h u) b,
     once_fetched told bounds rules start file old state items f end name selection made e r.begins once u,
   )
 
@@ -123,11 +123,11 @@ module _ (told : Option Files) (bounds : Bounds) (rules : Rules) where
   pub step_foreign : (old : Reading) (state : List Clause) (items : List OpenFile) (f : OpenFile) (place line : ℕ) → old.files.items ≡ items ++ f ∷ []
       → IsFault f.bytes.items f.at place × IsForeign (drop f.at f.bytes.items) → line ≡ line_of (take place f.bytes.items)
       → (start : List Clause) (file : Bytes) → IsUnderway told bounds rules start file old state
-      → Explains rules (Language f.name line) (HasFault told bounds rules start file old.fetches) × HasFetched told bounds rules start file old.fetches
+      → NamesWhy rules (Language f.name line) (HasFault told bounds rules start file old.fetches) × HasFetched told bounds rules start file old.fetches
   step_foreign old state items f place line e r l start file u = (
     inr (record {
       fault = foreign f.name line;
-      told = refl;
+      named = refl;
       holds = is_stuck told bounds rules start file old state items f (foreign f.name line) e
           (λ s outer h. subst (λ n. IsStuck s (foreign f.name n)) (sym l) (point_stuck f place outer s r.0 h (subst IsForeign (sym h.left) r.1))) u;
     }),
@@ -137,11 +137,11 @@ module _ (told : Option Files) (bounds : Bounds) (rules : Rules) where
   pub step_malformed : (old : Reading) (state : List Clause) (items : List OpenFile) (f : OpenFile) (place line : ℕ) → old.files.items ≡ items ++ f ∷ []
       → IsFault f.bytes.items f.at place × (IsForeign (drop f.at f.bytes.items) → ⊥) → line ≡ line_of (take place f.bytes.items)
       → (start : List Clause) (file : Bytes) → IsUnderway told bounds rules start file old state
-      → Explains rules (Syntax f.name line) (HasFault told bounds rules start file old.fetches) × HasFetched told bounds rules start file old.fetches
+      → NamesWhy rules (Syntax f.name line) (HasFault told bounds rules start file old.fetches) × HasFetched told bounds rules start file old.fetches
   step_malformed old state items f place line e r l start file u = (
     inr (record {
       fault = malformed f.name line;
-      told = refl;
+      named = refl;
       holds = is_stuck told bounds rules start file old state items f (malformed f.name line) e
           (λ s outer h. subst (λ n. IsStuck s (malformed f.name n)) (sym l) (point_malformed f place outer s r.0 h (λ k. r.1 (subst IsForeign h.left k)))) u;
     }),
@@ -165,7 +165,7 @@ steps_false told bounds rules old new before after more m h = subst (λ b. Steps
 pub steps_error : (told told' : Option Files) (bounds : Bounds) (rules rules' : Rules) (old new : Reading) (before after : List Clause) (e : HarvestFault) → told ≡ told' → rules ≡ rules'
     → StepsReading told bounds rules old new before after (Err e)
     → (start : List Clause) (file : Bytes) → IsUnderway told' bounds rules' start file old before
-    → Explains rules' e (HasFault told' bounds rules' start file new.fetches) × HasFetched told' bounds rules' start file new.fetches
+    → NamesWhy rules' e (HasFault told' bounds rules' start file new.fetches) × HasFetched told' bounds rules' start file new.fetches
 steps_error told told' bounds rules rules' old new before after e t l h =
     subst (λ x. StepsReading x bounds rules' old new before after (Err e)) t
     (subst (λ n. StepsReading told bounds n old new before after (Err e)) l h)

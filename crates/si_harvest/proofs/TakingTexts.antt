@@ -13,10 +13,10 @@ use Rattle.si_parse.specs.Reading.{IsItemRead, IsFault}
 use Rattle.si_parse.proofs.GrammarStops.{no_item_in_blanks}
 use Rattle.si_harvest.specs.declared.faults.Loaded.{Loaded}
 use Rattle.si_harvest.specs.declared.faults.HarvestFault.{HarvestFault}
-use Rattle.si_harvest.specs.Faults.{Explains}
+use Rattle.si_harvest.specs.Faults.{NamesWhy}
 use Rattle.si_harvest.specs.Gains.{CountsNoMore, Gained}
 use Rattle.si_harvest.specs.Texts.{GainsText, RefusesFirst, RefusesText, RefusesNext, TakesNext}
-use Rattle.si_harvest.proofs.Errors.{blames_weaker}
+use Rattle.si_harvest.proofs.Errors.{why_weaker}
 use Rattle.si_harvest.proofs.Shorter.{item_shorter}
 
 -- ---- what stands in front of a text of clauses
@@ -100,8 +100,8 @@ taking_ends rules start bytes at loaded loaded' state state' b same g h = (all, 
 
 -- the next is refused
 pub taking_refused : (rules : Rules) (start : List Clause) (bytes : Bytes) (at : ℕ) (loaded : Loaded) (state : List Clause) (e : HarvestFault)
-    → Explains rules e (RefusesNext rules bytes at state) → IsTaking rules start bytes at loaded state → Explains rules e (RefusesText rules start bytes)
-taking_refused rules start bytes at loaded state e x h = blames_weaker rules e (RefusesNext rules bytes at state) (RefusesText rules start bytes) by x where
+    → NamesWhy rules e (RefusesNext rules bytes at state) → IsTaking rules start bytes at loaded state → NamesWhy rules e (RefusesText rules start bytes)
+taking_refused rules start bytes at loaded state e x h = why_weaker rules e (RefusesNext rules bytes at state) (RefusesText rules start bytes) by x where
   first : (fault : Fault) (clause : Clause) (end : ℕ) (clauses : List Clause) → AreClauses clauses bytes → IsItemRead bytes at (clause_item clause) end
       → IsRejected rules state clause fault → RefusesFirst rules start clauses fault
   first (rejected c refusal) clause end clauses a r (same, refuses) =

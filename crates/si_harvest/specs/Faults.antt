@@ -1,4 +1,4 @@
--- Why a load is refused, as the program tells it.
+-- Why a load is refused, as the program names it.
 use Rattle.std.specs.Prelude.{◌≡◌, ◌⊎◌, Bool, List, [], Result, Ok, Err, IsErrAnd, IsTrue}
 use Rattle.si_defs.specs.Bytes.{Bytes}
 use Rattle.si_defs.specs.Symbols.{Symbol}
@@ -9,7 +9,8 @@ use Rattle.si_state.specs.Acceptance.{Refusal, Refuses}
 use Rattle.si_state.specs.Harvest.{Bounds, MayAsk, IsBarred, Fault, cycle, too_deep, too_many, missing, too_big, failed, foreign, malformed, rejected}
 use Rattle.si_term.specs.Meaning.{clause_of}
 use Rattle.si_io.specs.Counts.{raised}
-use Rattle.si_io.specs.Library.{Counts}
+use Rattle.si_io.specs.Library.{Counts, faults_in}
+use Rattle.si_io.specs.Shown.{LibraryShown}
 use Rattle.si_sign.specs.Shapes.{HasShapes}
 use Rattle.si_sign.specs.declared.faults.Rejected.{Rejected}
 use Rattle.si_sign.specs.declared.faults.AddFault.{AddFault}
@@ -26,7 +27,7 @@ bounds_of limits = record { file = limits.file; fetches = limits.fetches; depth 
 abbrev pub IsReason : Rules → AddFault → Refusal → Type 0
 IsReason rules add_fault.Taken refusal = refusal ≡ state.taken
 IsReason rules (add_fault.Clash c) refusal =
-    (found : Symbol) × (kept : Symbol) × (refusal ≡ state.misused c.entry found kept)
+    (found : Symbol) × (kept : Symbol) × (refusal ≡ state.misused c.occurrence found kept)
     × HasShapes c found kept
 IsReason rules (add_fault.Full n most) refusal = (refusal ≡ state.full n) × (most ≡ rules.entries)
 IsReason rules add_fault.Memory refusal = ⊥
@@ -38,7 +39,7 @@ pub record IsRejection (rules : Rules) (r : Rejected) (refusal : Refusal) : Type
   pub refuses : Refuses rules kept (clause_of r.clause) refusal
   pub reason : IsReason rules r.why refusal
 
--- by these rules the program tells this fault
+-- by these rules the program names this fault
 abbrev pub NamesFault : Rules → HarvestFault → Fault → Type 0
 NamesFault rules (Syntax file line) fault = fault ≡ malformed file line
 NamesFault rules (Language file line) fault = fault ≡ foreign file line
@@ -53,21 +54,22 @@ NamesFault rules (Depth file) fault = fault ≡ too_deep file
 NamesFault rules Fetches fault = fault ≡ too_many
 NamesFault rules Memory fault = ⊥
 
--- memory ran out, or the fault that is told is one of which P holds
+-- the fault that it names is one of which P holds
 pub record NamesOneOf (rules : Rules) (e : HarvestFault) (P : Fault → Type 0) : Type 0 where
   pub fault : Fault
-  pub told : NamesFault rules e fault
+  pub named : NamesFault rules e fault
   pub holds : P fault
 
-abbrev pub Explains : Rules → HarvestFault → (Fault → Type 0) → Type 0
-Explains rules e P = (e ≡ Memory) ⊎ NamesOneOf rules e P
+-- memory ran out, or it names such a fault
+abbrev pub NamesWhy : Rules → HarvestFault → (Fault → Type 0) → Type 0
+NamesWhy rules e P = (e ≡ Memory) ⊎ NamesOneOf rules e P
 
 -- A load of a file that may not be asked for at its start is refused for the first reason why not,
 -- or for want of memory, whatever the library tells.
 abbrev pub ChecksStart : {T : Type 0} → Bounds → Rules → Bytes → Result T HarvestFault → Type 0
 ChecksStart bounds rules file result =
     (MayAsk bounds [] 0 file → ⊥) →
-    IsErrAnd result (λ e. Explains rules e (IsBarred bounds [] 0 file))
+    IsErrAnd result (λ e. NamesWhy rules e (IsBarred bounds [] 0 file))
 
 -- A library's failures, missing files and files that are too big have a count each, which is one
 -- more where a load is refused for it, and no other count moved. For a failure it is refused only
@@ -84,3 +86,8 @@ HasFaultCause may_fail before now fault = now ≡ before
 abbrev pub HasLoadCause : {T : Type 0} → Bool → Counts → Counts → Result T HarvestFault → Type 0
 HasLoadCause may_fail before now (Ok x) = now ≡ before
 HasLoadCause may_fail before now (Err fault) = HasFaultCause may_fail before now fault
+
+-- that cause, by what a library shows before a load and after it
+abbrev pub CountsCause : {T : Type 0} → LibraryShown → LibraryShown → Result T HarvestFault → Type 0
+CountsCause before now result =
+    HasLoadCause before.may_fail (faults_in before.counts) (faults_in now.counts) result

@@ -22,6 +22,11 @@ pub record Gained (rules : Rules) (start : List Clause) (loaded : Loaded)
   pub clauses : loaded.clauses ≡ length gained
   pub entries : loaded.entries ≡ length (state_entries gained)
 
+-- what a load has gained from any start on, with what is now kept and counted too
+abbrev pub GainsOn : Rules → Loaded → List Clause → Loaded → List Clause → Type 0
+GainsOn rules loaded kept loaded_now kept_now = (start : List Clause)
+    → Gained rules start loaded kept → Gained rules start loaded_now kept_now
+
 -- after a load of the file and so many fetches these clauses are kept, and there is no fault
 abbrev pub GainsByLoad : Option Files → Bounds → Rules → List Clause → Bytes → (made : ℕ)
     → List Clause → Type 0

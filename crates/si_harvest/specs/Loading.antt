@@ -9,7 +9,7 @@ use Rattle.si_io.specs.Counts.{raised_by}
 use Rattle.si_harvest.specs.declared.reading.Reading.{Reading}
 use Rattle.si_harvest.specs.declared.faults.Loaded.{Loaded}
 use Rattle.si_harvest.specs.declared.faults.HarvestFault.{HarvestFault}
-use Rattle.si_harvest.specs.Faults.{Explains}
+use Rattle.si_harvest.specs.Faults.{NamesWhy}
 use Rattle.si_harvest.specs.Opened.{HasFault, HasFetched}
 use Rattle.si_harvest.specs.Gains.{CountsNoMore, Gained, GainsByLoad}
 use Rattle.si_harvest.specs.Underway.{IsUnderway, AreWithin}
@@ -33,4 +33,4 @@ pub record ReadsFiles {T : Type 0} (told : Option Files) (bounds : Bounds) (rule
   pub may : MayFetch bounds file made
   pub first : (made ≡ 0) ⊎ HasFetched told bounds rules start file made
   pub right : OnOk result (GainsByLoad told bounds rules start file made kept)
-  pub fault : IfErr result (λ e. Explains rules e (HasFault told bounds rules start file made))
+  pub fault : IfErr result (λ e. NamesWhy rules e (HasFault told bounds rules start file made))

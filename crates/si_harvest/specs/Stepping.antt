@@ -7,7 +7,7 @@ use Rattle.si_state.specs.Harvest.{Files, Bounds}
 use Rattle.si_io.specs.Counts.{raised_by}
 use Rattle.si_harvest.specs.declared.reading.Reading.{Reading}
 use Rattle.si_harvest.specs.declared.faults.HarvestFault.{HarvestFault}
-use Rattle.si_harvest.specs.Faults.{Explains}
+use Rattle.si_harvest.specs.Faults.{NamesWhy}
 use Rattle.si_harvest.specs.Opened.{HasFault, HasFetched}
 use Rattle.si_harvest.specs.Underway.{IsUnderway, AreWithin, steps_left}
 
@@ -36,5 +36,5 @@ StepsReading told bounds rules old new before after (Ok false) =
     (old.files.items ≡ []) × (after ≡ before) × (new.fetches ≡ old.fetches)
 StepsReading told bounds rules old new before after (Err e) =
     (start : List Clause) (file : Bytes) → IsUnderway told bounds rules start file old before
-    → Explains rules e (HasFault told bounds rules start file new.fetches)
+    → NamesWhy rules e (HasFault told bounds rules start file new.fetches)
     × HasFetched told bounds rules start file new.fetches

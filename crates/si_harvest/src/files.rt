@@ -5,8 +5,9 @@ ghost use Rattle.si_state.specs.States.{Rules};
 ghost use Rattle.si_state.specs.Harvest.{MayAsk, IsBarred, IsWithheld};
 ghost use Rattle.si_term.specs.Meaning.{name_of};
 ghost use Rattle.si_io.specs.Counts.{raised};
-ghost use Rattle.si_io.specs.Library.{Counts, faults_in};
-ghost use Rattle.si_harvest.specs.Faults.{Explains, HasLoadCause, bounds_of};
+ghost use Rattle.si_io.specs.Library.{Counts};
+ghost use Rattle.si_io.specs.Shown.{KeepsFiles};
+ghost use Rattle.si_harvest.specs.Faults.{NamesWhy, HasLoadCause, CountsCause, bounds_of};
 ghost use Rattle.si_harvest.specs.Opened.{HasOpened, opened, has_open, lists, is_selected};
 
 use crate::faults::{HarvestFault, HarvestLimits};
@@ -63,7 +64,7 @@ pub fn may_ask(
 ) -> Result<(), HarvestFault>
     ensures may { OnOk result (MayAsk (bounds_of limits.now) (opened files.now) fetches
         name.now) }
-    ensures barred { IfErr result (λ e. (rules : Rules) → Explains rules e (IsBarred
+    ensures barred { IfErr result (λ e. (rules : Rules) → NamesWhy rules e (IsBarred
         (bounds_of limits.now) (opened files.now) fetches name.now)) }
     ensures cause { (may_fail : Bool) (counts : Counts) → HasLoadCause may_fail counts counts
         result }
@@ -91,20 +92,17 @@ pub fn open<L: Library>(
 ) -> Result<OpenFile, HarvestFault>
     ensures opened { IfOk result
         (HasOpened (L.shown library.old).files (bounds_of limits.now) name chosen) }
-    ensures withheld { IfErr result (λ e. (rules : Rules) → Explains rules e (λ fault. IfSome
+    ensures withheld { IfErr result (λ e. (rules : Rules) → NamesWhy rules e (λ fault. IfSome
         (L.shown library.old).files
         (λ files. IsWithheld files (bounds_of limits.now) name fault))) }
-    ensures told { (L.shown library.new).files ≡ (L.shown library.old).files }
-    ensures same { (L.shown library.new).may_fail ≡ (L.shown library.old).may_fail }
-    ensures cause { HasLoadCause (L.shown library.old).may_fail
-        (faults_in (L.shown library.old).counts)
-        (faults_in (L.shown library.new).counts) result }
+    ensures library { KeepsFiles (L.shown library.old) (L.shown library.new) }
+    ensures cause { CountsCause (L.shown library.old) (L.shown library.new) result }
     ensures once { (L.shown library.new).counts.calls
         ≡ raised (L.shown library.old).counts.calls }
 {
     let mut bytes = Vec::new(alloc);
     match library.fetch(name.as_bytes(), &mut bytes, limits.file) {
-        Fetched::Found => Ok(OpenFile {
+        Fetched::File => Ok(OpenFile {
             name,
             bytes,
             at: 0,

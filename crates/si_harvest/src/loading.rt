@@ -1,8 +1,8 @@
 // Loads: all clauses of a file, or none.
 ghost use Rattle.std.specs.Prelude.{◌≡◌, ◌≤◌, IfOk, OnErr};
 ghost use Rattle.si_defs.specs.declared.TheConstants.{MOST_OCCURRENCES};
-ghost use Rattle.si_io.specs.Library.{faults_in};
-ghost use Rattle.si_harvest.specs.Faults.{ChecksStart, HasLoadCause, bounds_of};
+ghost use Rattle.si_io.specs.Shown.{KeepsFiles};
+ghost use Rattle.si_harvest.specs.Faults.{ChecksStart, CountsCause, bounds_of};
 ghost use Rattle.si_harvest.specs.Gains.{CountsNoMore, Gained};
 ghost use Rattle.si_harvest.specs.Loading.{ReadsFiles};
 
@@ -33,11 +33,8 @@ pub fn expand<L: Library, T: ClauseStore>(
     ensures start { ChecksStart (bounds_of limits.now) (T.rules store.old) name.now result }
     ensures err { OnErr result (T.clauses store.new ≡ T.clauses store.old) }
     ensures rules { T.rules store.new ≡ T.rules store.old }
-    ensures told { (L.shown library.new).files ≡ (L.shown library.old).files }
-    ensures same { (L.shown library.new).may_fail ≡ (L.shown library.old).may_fail }
-    ensures cause { HasLoadCause (L.shown library.old).may_fail
-        (faults_in (L.shown library.old).counts)
-        (faults_in (L.shown library.new).counts) result }
+    ensures library { KeepsFiles (L.shown library.old) (L.shown library.new) }
+    ensures cause { CountsCause (L.shown library.old) (L.shown library.new) result }
 {
     let mut loaded = Loaded {
         clauses: 0,
@@ -73,11 +70,8 @@ fn read_all<L: Library, T: ClauseStore>(
     ensures gained { Gained (T.rules store.old) (T.clauses store.old) loaded.new
         (T.clauses store.new) }
     ensures rules { T.rules store.new ≡ T.rules store.old }
-    ensures told { (L.shown library.new).files ≡ (L.shown library.old).files }
-    ensures same { (L.shown library.new).may_fail ≡ (L.shown library.old).may_fail }
-    ensures cause { HasLoadCause (L.shown library.old).may_fail
-        (faults_in (L.shown library.old).counts)
-        (faults_in (L.shown library.new).counts) result }
+    ensures library { KeepsFiles (L.shown library.old) (L.shown library.new) }
+    ensures cause { CountsCause (L.shown library.old) (L.shown library.new) result }
 {
     let mut reading = Reading::new(alloc);
     reading.enter(alloc, library, limits, name, None)?;

@@ -1,19 +1,18 @@
 // The reading of files, item by item.
-ghost use Rattle.std.specs.Prelude.{◌≡◌, ◌≤◌, true, List, [], ◌∷◌, ◌++◌, Option, IfOk, IfErr, OnOk};
-ghost use Rattle.si_defs.specs.Clauses as defs;
+ghost use Rattle.std.specs.Prelude.{◌≡◌, ◌≤◌, true, [], ◌∷◌, ◌++◌, Option, IfOk, IfErr, OnOk};
 ghost use Rattle.si_defs.specs.Clauses.{IsSoundClause};
 ghost use Rattle.si_defs.specs.declared.TheConstants.{MOST_OCCURRENCES};
 ghost use Rattle.si_state.specs.States.{Rules};
 ghost use Rattle.si_state.specs.Harvest.{IsRejected};
-ghost use Rattle.si_io.specs.Library.{faults_in};
+ghost use Rattle.si_io.specs.Shown.{KeepsFiles};
 ghost use Rattle.si_term.specs.Meaning.{clause_of};
 ghost use Rattle.si_harvest.specs.declared.names.NameSet.{NameSet};
 ghost use Rattle.si_harvest.specs.declared.reading.Reading.{Reading};
 ghost use Rattle.si_parse.specs.Meaning.{selection_of};
-ghost use Rattle.si_harvest.specs.Faults.{Explains, HasLoadCause, bounds_of};
+ghost use Rattle.si_harvest.specs.Faults.{NamesWhy, CountsCause, bounds_of};
 ghost use Rattle.si_harvest.specs.Opened.{OpensInside, IsUnopened, FetchesOnce, TriesClause, is_selected};
 ghost use Rattle.si_harvest.specs.Stepping.{FetchesOn, StepsReading};
-ghost use Rattle.si_harvest.specs.Gains.{CountsNoMore, Gained};
+ghost use Rattle.si_harvest.specs.Gains.{CountsNoMore, GainsOn};
 ghost use Rattle.si_harvest.specs.Underway.{AreWithin, Lists};
 
 use crate::faults::{HarvestFault, HarvestLimits, Loaded};
@@ -58,16 +57,13 @@ impl Reading {
     ) -> Result<(), HarvestFault>
         ensures entered { OnOk result (OpensInside (L.shown library.old).files
             (bounds_of limits.now) name.now chosen self.old self.new) }
-        ensures unopened { IfErr result (λ e. (rules : Rules) → Explains rules e (IsUnopened
+        ensures unopened { IfErr result (λ e. (rules : Rules) → NamesWhy rules e (IsUnopened
             (L.shown library.old).files (bounds_of limits.now) name.now self.old.files.items
             self.old.fetches self.new.fetches)) }
         ensures once { FetchesOnce (bounds_of limits.now) name.now self.old.files.items
             self.old.fetches self.new.fetches }
-        ensures told { (L.shown library.new).files ≡ (L.shown library.old).files }
-        ensures same { (L.shown library.new).may_fail ≡ (L.shown library.old).may_fail }
-        ensures cause { HasLoadCause (L.shown library.old).may_fail
-            (faults_in (L.shown library.old).counts) (faults_in (L.shown library.new).counts)
-            result }
+        ensures library { KeepsFiles (L.shown library.old) (L.shown library.new) }
+        ensures cause { CountsCause (L.shown library.old) (L.shown library.new) result }
         ensures fetches { FetchesOn limits.now.fetches self.old.fetches self.new.fetches
             (L.shown library.old).counts.calls (L.shown library.new).counts.calls }
     {
@@ -102,13 +98,12 @@ impl Reading {
         ensures fetches { self.new.fetches ≡ self.old.fetches }
         ensures taken { OnOk result (TriesClause (T.rules store.old) self.new.files.items
             (clause_of clause) (T.clauses store.old) (T.clauses store.new)) }
-        ensures refused { IfErr result (λ e. Explains (T.rules store.old) e (λ fault.
+        ensures refused { IfErr result (λ e. NamesWhy (T.rules store.old) e (λ fault.
             (is_selected (self.old.files.items ++ file ∷ []) (clause_of clause).name ≡ true)
             × IsRejected (T.rules store.old) (T.clauses store.old) (clause_of clause) fault)) }
         ensures counted { CountsNoMore loaded.new (T.clauses store.new) }
-        ensures gained { (start : List defs.Clause)
-            → Gained (T.rules store.old) start loaded.old (T.clauses store.old)
-            → Gained (T.rules store.old) start loaded.new (T.clauses store.new) }
+        ensures gained { GainsOn (T.rules store.old) loaded.old (T.clauses store.old) loaded.new
+            (T.clauses store.new) }
         ensures rules { T.rules store.new ≡ T.rules store.old }
     {
         self.push(file)?;
@@ -135,16 +130,13 @@ impl Reading {
             × (middle.fetches ≡ self.old.fetches)
             × OpensInside (L.shown library.old).files (bounds_of limits.now) name.now chosen middle
             self.new) }
-        ensures unopened { IfErr result (λ e. (rules : Rules) → Explains rules e (IsUnopened
+        ensures unopened { IfErr result (λ e. (rules : Rules) → NamesWhy rules e (IsUnopened
             (L.shown library.old).files (bounds_of limits.now) name.now
             (self.old.files.items ++ file ∷ []) self.old.fetches self.new.fetches)) }
         ensures once { FetchesOnce (bounds_of limits.now) name.now
             (self.old.files.items ++ file ∷ []) self.old.fetches self.new.fetches }
-        ensures told { (L.shown library.new).files ≡ (L.shown library.old).files }
-        ensures same { (L.shown library.new).may_fail ≡ (L.shown library.old).may_fail }
-        ensures cause { HasLoadCause (L.shown library.old).may_fail
-            (faults_in (L.shown library.old).counts) (faults_in (L.shown library.new).counts)
-            result }
+        ensures library { KeepsFiles (L.shown library.old) (L.shown library.new) }
+        ensures cause { CountsCause (L.shown library.old) (L.shown library.new) result }
         ensures fetches { FetchesOn limits.now.fetches self.old.fetches self.new.fetches
             (L.shown library.old).counts.calls (L.shown library.new).counts.calls }
     {
@@ -171,15 +163,11 @@ impl Reading {
             (T.rules store.old) self.old self.new (T.clauses store.old) (T.clauses store.new)
             result }
         ensures counted { CountsNoMore loaded.new (T.clauses store.new) }
-        ensures gained { (start : List defs.Clause)
-            → Gained (T.rules store.old) start loaded.old (T.clauses store.old)
-            → Gained (T.rules store.old) start loaded.new (T.clauses store.new) }
+        ensures gained { GainsOn (T.rules store.old) loaded.old (T.clauses store.old) loaded.new
+            (T.clauses store.new) }
         ensures rules { T.rules store.new ≡ T.rules store.old }
-        ensures told { (L.shown library.new).files ≡ (L.shown library.old).files }
-        ensures same { (L.shown library.new).may_fail ≡ (L.shown library.old).may_fail }
-        ensures cause { HasLoadCause (L.shown library.old).may_fail
-            (faults_in (L.shown library.old).counts) (faults_in (L.shown library.new).counts)
-            result }
+        ensures library { KeepsFiles (L.shown library.old) (L.shown library.new) }
+        ensures cause { CountsCause (L.shown library.old) (L.shown library.new) result }
         ensures fetches { FetchesOn limits.now.fetches self.old.fetches self.new.fetches
             (L.shown library.old).counts.calls (L.shown library.new).counts.calls }
     {

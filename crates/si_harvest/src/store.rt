@@ -8,8 +8,8 @@ ghost use Rattle.si_state.specs.Acceptance.{Accepts};
 ghost use Rattle.si_state.specs.Harvest.{IsRejected};
 ghost use Rattle.si_term.specs.Meaning.{clause_of};
 ghost use Rattle.si_sign.specs.Stores.{Rejects};
-ghost use Rattle.si_harvest.specs.Faults.{Explains};
-ghost use Rattle.si_harvest.specs.Gains.{CountsNoMore, Gained};
+ghost use Rattle.si_harvest.specs.Faults.{NamesWhy};
+ghost use Rattle.si_harvest.specs.Gains.{CountsNoMore, GainsOn};
 
 use crate::faults::{HarvestFault, Loaded};
 use si_sign::{AddFault, ClauseStore, Rejected};
@@ -26,12 +26,11 @@ pub fn add<T: ClauseStore>(
     requires counted { CountsNoMore loaded.old (T.clauses store.old) }
     ensures accepted { OnOk result (Accepts (T.rules store.old) (T.clauses store.old)
         (clause_of clause) (T.clauses store.new)) }
-    ensures refused { IfErr result (λ e. Explains (T.rules store.old) e
+    ensures refused { IfErr result (λ e. NamesWhy (T.rules store.old) e
         (IsRejected (T.rules store.old) (T.clauses store.old) (clause_of clause))) }
     ensures counted { CountsNoMore loaded.new (T.clauses store.new) }
-    ensures gained { (start : List defs.Clause)
-        → Gained (T.rules store.old) start loaded.old (T.clauses store.old)
-        → Gained (T.rules store.old) start loaded.new (T.clauses store.new) }
+    ensures gained { GainsOn (T.rules store.old) loaded.old (T.clauses store.old) loaded.new
+        (T.clauses store.new) }
     ensures err { OnErr result (T.clauses store.new ≡ T.clauses store.old) }
     ensures rules { T.rules store.new ≡ T.rules store.old }
 {
@@ -50,7 +49,7 @@ fn refusal(rejected: Rejected) -> HarvestFault
     requires { IsSoundClause (clause_of rejected.clause) }
     ensures { (rules : Rules) (kept : List defs.Clause)
         → Rejects rules kept (clause_of rejected.clause) rejected.why
-        → Explains rules result (IsRejected rules kept (clause_of rejected.clause)) }
+        → NamesWhy rules result (IsRejected rules kept (clause_of rejected.clause)) }
 {
     if let AddFault::Memory = rejected.why {
         return HarvestFault::Memory;

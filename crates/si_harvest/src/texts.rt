@@ -4,8 +4,8 @@ ghost use Rattle.si_defs.specs.Clauses as defs;
 ghost use Rattle.si_defs.specs.Tokens.{AreBlanks};
 ghost use Rattle.si_defs.specs.declared.TheConstants.{MOST_OCCURRENCES};
 ghost use Rattle.si_state.specs.Harvest.{AreClauses};
-ghost use Rattle.si_harvest.specs.Faults.{Explains};
-ghost use Rattle.si_harvest.specs.Gains.{CountsNoMore, Gained};
+ghost use Rattle.si_harvest.specs.Faults.{NamesWhy};
+ghost use Rattle.si_harvest.specs.Gains.{CountsNoMore, Gained, GainsOn};
 ghost use Rattle.si_harvest.specs.Texts.{GainsText, RefusesText, RefusesNext, TakesNext};
 
 use crate::faults::{HarvestFault, Loaded};
@@ -30,7 +30,7 @@ pub fn take_text<T: ClauseStore>(
     requires limit { (T.rules store.old).entries ≤ MOST_OCCURRENCES }
     ensures loaded { IfOk result (λ loaded. GainsText (T.rules store.old) (T.clauses store.old)
         bytes.now loaded (T.clauses store.new)) }
-    ensures fault { IfErr result (λ e. Explains (T.rules store.old) e (RefusesText
+    ensures fault { IfErr result (λ e. NamesWhy (T.rules store.old) e (RefusesText
         (T.rules store.old) (T.clauses store.old) bytes.now)) }
     ensures err { OnErr result (T.clauses store.new ≡ T.clauses store.old) }
     ensures rules { T.rules store.new ≡ T.rules store.old }
@@ -63,7 +63,7 @@ fn take_all<T: ClauseStore>(
         (T.clauses store.old) }
     ensures taken { OnOk result (GainsText (T.rules store.old) (T.clauses store.old) bytes.now
         loaded.new (T.clauses store.new)) }
-    ensures fault { IfErr result (λ e. Explains (T.rules store.old) e (RefusesText
+    ensures fault { IfErr result (λ e. NamesWhy (T.rules store.old) e (RefusesText
         (T.rules store.old) (T.clauses store.old) bytes.now)) }
     ensures gained { Gained (T.rules store.old) (T.clauses store.old) loaded.new
         (T.clauses store.new) }
@@ -96,12 +96,11 @@ fn take_next<T: ClauseStore>(
     ensures blanks { IfOk result (λ next. IfNone next (AreBlanks (drop at bytes.now))) }
     ensures ended { IfOk result (λ next.
         IfNone next (T.clauses store.new ≡ T.clauses store.old)) }
-    ensures fault { IfErr result (λ e. Explains (T.rules store.old) e (RefusesNext
+    ensures fault { IfErr result (λ e. NamesWhy (T.rules store.old) e (RefusesNext
         (T.rules store.old) bytes.now at (T.clauses store.old))) }
     ensures counted { CountsNoMore loaded.new (T.clauses store.new) }
-    ensures gained { (start : List defs.Clause)
-        → Gained (T.rules store.old) start loaded.old (T.clauses store.old)
-        → Gained (T.rules store.old) start loaded.new (T.clauses store.new) }
+    ensures gained { GainsOn (T.rules store.old) loaded.old (T.clauses store.old) loaded.new
+        (T.clauses store.new) }
     ensures rules { T.rules store.new ≡ T.rules store.old }
 {
     match next_item(alloc, bytes, at)? {

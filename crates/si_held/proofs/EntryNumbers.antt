@@ -7,11 +7,11 @@ use Rattle.si_defs.specs.Terms as terms
 use Rattle.si_defs.specs.Symbols.{Symbol, Numbering}
 use Rattle.si_defs.specs.Substitutions.{IsAmong}
 use Rattle.si_defs.specs.Clauses.{Term, Terms}
-use Rattle.si_defs.specs.Entries.{Entry, distinct_variables}
+use Rattle.si_defs.specs.Entries.{Entry, distinct_variables, whole_of}
 use Rattle.si_defs.proofs.ListLaws.{all_weaker, all_front, all_back, all_from}
 use Rattle.si_flat.specs.Cells.{Variable, entry}
 use Rattle.si_flat.specs.Numbered.{number_in, one_above, signed, place_in, numbered, all_numbered}
-use Rattle.si_flat.specs.Flattened.{has_number, unnumbered, whole_of, is_positive, numbered_entry}
+use Rattle.si_flat.specs.Flattened.{has_number, unnumbered, is_positive, numbered_entry}
 use Rattle.si_flat.proofs.Numbers.{among-number}
 use Rattle.si_flat.proofs.FirstPlaces.{filter_among}
 

@@ -6,9 +6,8 @@ use Rattle.si_defs.specs.Terms as terms
 use Rattle.si_defs.specs.Symbols.{Symbol}
 use Rattle.si_defs.specs.Substitutions.{IsAmong}
 use Rattle.si_defs.specs.Clauses.{Term, Terms, Literal, Clause}
-use Rattle.si_defs.specs.Entries.{Placed, proper_occurrences, placed_term, literal_entries, entries_from, entries, literals_symbols, clause_symbols, state_symbols}
+use Rattle.si_defs.specs.Entries.{Placed, proper_occurrences, placed_term, literal_entries, entries_from, entries, literals_symbols, clause_symbols, state_symbols, whole_of}
 use Rattle.si_defs.proofs.ListLaws.{all_at, all_from, all_append, all_front, all_back, all_got}
-use Rattle.si_flat.specs.Flattened.{whole_of}
 use Rattle.si_changes.proofs.RenamedTerms.{map_among}
 use Rattle.si_held.proofs.KeyLaws.{clause_of}
 

@@ -4,10 +4,10 @@ use Rattle.std.specs.Prelude.{◌≡◌, ℕ, List, ◌++◌, map}
 use Rattle.si_defs.specs.Terms.{firsts, symbols}
 use Rattle.si_defs.specs.Symbols.{Symbol, Numbering, same_symbol}
 use Rattle.si_defs.specs.Clauses.{Clause, Pattern}
-use Rattle.si_defs.specs.Entries.{pattern_entry}
+use Rattle.si_defs.specs.Entries.{pattern_entry, whole_of}
 use Rattle.si_defs.specs.declared.Relation.{Relation}
 use Rattle.si_flat.specs.Cells.{query, Term}
-use Rattle.si_flat.specs.Flattened.{numbered_entry, whole_of, unnumbered, extra_numbers}
+use Rattle.si_flat.specs.Flattened.{numbered_entry, unnumbered, extra_numbers}
 use Rattle.si_legal.specs.Trees.{Tree}
 use Rattle.si_legal.specs.KeptTrees.{is_literal}
 use Rattle.si_legal.specs.OpenNodes.{CountsOpen}

@@ -2,7 +2,7 @@
 use Rattle.std.proofs.Common.{◌≡◌, ℕ, zero, suc, ◌<◌, ◌≤◌, List, [], ◌∷◌, length, map, get_or, inl, inr, ap, sym, subst, arith}
 use Rattle.std.specs.Prelude.{Some, slice_get}
 use Rattle.std.specs.List.{AllByRecursion}
-use Rattle.si_defs.specs.Terms.{var, app, none, more, row, size, symbols, symbols_of_all}
+use Rattle.si_defs.specs.Terms.{var, app, none, more, row, size, symbols, symbols_of_all, arguments}
 use Rattle.si_defs.specs.Symbols.{Numbering}
 use Rattle.si_defs.specs.Clauses.{Term, Terms, Literal, Clause, IsSoundTerm, AreSoundTerms, IsSoundAtom, IsSoundLiteral, IsSoundClause, literals_size}
 use Rattle.si_defs.specs.Entries.{Entry, literal_entry, term_entry, Placed, entries, clause_symbols, literals_symbols, state_symbols}
@@ -17,7 +17,7 @@ use Rattle.si_term.specs.declared.term.Term as program
 use Rattle.si_term.specs.declared.term.Term.TheVariants.{App}
 use Rattle.si_term.specs.declared.clause.Literal as program_literal
 use Rattle.si_term.proofs.Rows.{size-read, app-term, positive}
-use Rattle.si_term.specs.Walks.{subterms, subterms_of_all, arguments, entries_alone}
+use Rattle.si_term.specs.Walks.{subterms, subterms_of_all, entries_alone}
 use Rattle.si_term.proofs.Alone.{entries-alone}
 use Rattle.si_sign.proofs.UsesOf.{among_numbering, uses_positive, times_among}
 use Rattle.si_form.specs.TableNumbers.{HaveNumbers}

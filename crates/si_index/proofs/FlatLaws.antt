@@ -8,7 +8,7 @@ use Rattle.si_defs.specs.Terms.{symbols, variables, firsts}
 use Rattle.si_defs.specs.Symbols.{Symbol, Numbering, IsNumbering}
 use Rattle.si_defs.specs.Substitutions.{IsAmong}
 use Rattle.si_defs.specs.Clauses.{Term, Pattern, literal_pattern, term_pattern, IsSoundPattern}
-use Rattle.si_defs.specs.Entries.{Entry, literal_entry, term_entry, pattern_entry, distinct_variables}
+use Rattle.si_defs.specs.Entries.{Entry, literal_entry, term_entry, pattern_entry, distinct_variables, whole_of}
 use Rattle.si_defs.specs.declared.Relation.{Relation}
 use Rattle.si_defs.proofs.ListLaws.{among_front, among_parts, all_from}
 use Rattle.si_defs.proofs.SymbolLaws.{text_is}
@@ -19,7 +19,7 @@ use Rattle.si_flat.specs.declared.Owner.{Owner}
 use Rattle.si_flat.specs.declared.flatten.FlatQuery.{FlatQuery}
 use Rattle.si_flat.specs.Cells as cells
 use Rattle.si_flat.specs.Numbered.{number_in, signed}
-use Rattle.si_flat.specs.Flattened.{has_number, unnumbered, extra_numbers, query_numbers, whole_of, IsFlatOf, IsQueryNumbering, FlattensPattern}
+use Rattle.si_flat.specs.Flattened.{has_number, unnumbered, extra_numbers, query_numbers, IsFlatOf, IsQueryNumbering, FlattensPattern}
 use Rattle.si_flat.specs.Flattening.{owners_variable}
 use Rattle.si_flat.proofs.Numbers.{has-among, among-number}
 use Rattle.si_flat.proofs.FirstPlaces.{among_firsts, filter_among}

@@ -7,14 +7,14 @@ use Rattle.std.proofs.lemmas.Option.{get_or_from_slice_get, none-some, same_Some
 use Rattle.si_defs.specs.Bytes.{Bytes}
 use Rattle.si_defs.specs.Symbols.{Symbol, Numbering, IsNumbering}
 use Rattle.si_defs.specs.Clauses.{IsSoundPattern, IsSoundClause}
-use Rattle.si_defs.specs.Entries.{Entry, Placed, pattern_entry, distinct_variables}
+use Rattle.si_defs.specs.Entries.{Entry, Placed, pattern_entry, distinct_variables, whole_of}
 use Rattle.si_defs.proofs.ListLaws.{all_get}
 use Rattle.si_state.specs.Signatures.{IsSignatureOf}
 use Rattle.si_term.specs.Terms.{symbol_of}
 use Rattle.si_term.specs.Meaning.{place_of}
 use Rattle.si_term.specs.declared.term.Sym.{Sym}
 use Rattle.si_flat.specs.Numbered.{number_in}
-use Rattle.si_flat.specs.Flattened.{FlattensPattern, extra_numbers, query_numbers, whole_of}
+use Rattle.si_flat.specs.Flattened.{FlattensPattern, extra_numbers, query_numbers}
 use Rattle.si_form.specs.declared.solution.Binding.{Binding}
 use Rattle.si_form.specs.Answers.{StandsForList}
 use Rattle.si_form.specs.Numberings.{variable_by, list_by, symbols_of}

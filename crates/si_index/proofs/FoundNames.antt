@@ -30,7 +30,7 @@ kind_self : (a : NameKind) → same_name_kind a a ≡ true
 kind_self Word = refl
 kind_self Int = refl
 
-pub same_is : (m n : Name) → same_name m n ≡ true → m ≡ n
+same_is : (m n : Name) → same_name m n ≡ true → m ≡ n
 same_is m n h = let p = and_parts (same_name_kind m.kind n.kind) (bytes_eq m.text n.text) h in name_is m n (kind_is m.kind n.kind p.0) (text_is m.text n.text p.1)
 
 same_self : (n : Name) → same_name n n ≡ true
@@ -92,13 +92,11 @@ module _ (items : Items) (names : ClauseNames) (n : Name) (k : ℕ) (led : hashe
   pub key_unknown : (HasKey items k → ⊥) → key_of_name items names n ≡ key_of names.others n
   key_unknown none = found_past (named_unless items n k (λ d a e. none (key_among items (k, d) a)))
 
-  pub name_differs : AreNamed items (key_of_name items names) → (c : Clause) → IsAmong items (k, c) → same_name (name_of c.name) n ≡ false → key_of_name items names n ≡ key_of names.others n
-  name_differs are c among differ = found_past (named_unless items n k (λ d a e.
-      let same : name_of c.name ≡ n = are.named (name_of d.name) k (are.listed k d a) c among ∙ e in
-      absurd (false≢true (sym differ ∙ ap (λ m. same_name m n) same ∙ same_self n))))
+  pub name_differs : AreNamed items (key_of_name items names) → (c : Clause) → IsAmong items (k, c) → (name_of c.name ≡ n → ⊥) → key_of_name items names n ≡ key_of names.others n
+  name_differs are c among differ = found_past (named_unless items n k (λ d a e. differ (are.named (name_of d.name) k (are.listed k d a) c among ∙ e)))
 
-  pub name_agrees : (c : Clause) → IsAmong items (k, c) → same_name (name_of c.name) n ≡ true → key_of_name items names n ≡ Some k
-  name_agrees c among same = found_here (named_among items n k c among (same_is (name_of c.name) n same))
+  pub name_agrees : (c : Clause) → IsAmong items (k, c) → name_of c.name ≡ n → key_of_name items names n ≡ Some k
+  name_agrees c among same = found_here (named_among items n k c among same)
 
 -- ---- a clause comes
 module _ (items : Items) (key : ℕ) (c : Clause) (fresh : HasKey items key → ⊥) where

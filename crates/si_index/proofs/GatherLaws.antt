@@ -14,7 +14,7 @@ use Rattle.si_term.specs.declared.clause.Clause.{Clause}
 use Rattle.si_term.specs.declared.clause.Entry as program_entry
 use Rattle.si_keyed.specs.Placed.{HasPlace, PlacesRise}
 use Rattle.si_keyed.proofs.PlacedLaws.{same_position}
-use Rattle.si_entries.specs.Walks.{GivesAfter, left_of, place_in}
+use Rattle.si_entries.specs.Walks.{GivesAfter, left_of, last_place}
 use Rattle.si_entries.specs.declared.Entries.{Entries}
 use Rattle.si_index.specs.Leaves.{StayMade}
 use Rattle.si_index.specs.Searching.{numbers_of, pattern_in, IsReady, IsKnownEntry, IsKnownClause, IsOfLeaf, HasSolution, IsMatch, AreMatches, hit_of}
@@ -130,9 +130,9 @@ module _ (s : Search) (w : Wanted) (hit : ℕ × Placed) (ready : IsReady s) (h 
 
 -- the entry that the walk comes to
 pub walk_given : (slots : Slots) (walk : ClauseWalk) (rest : Entries) (w : Wanted) (e : program_entry.Entry) → IsWalk slots walk → walk.next ≤ w.entry → GivesAfter (w.entry - walk.next) walk.entries rest (Some e)
-    → (slice_get (entries (clause_of walk.clause.now)) w.entry ≡ Some (record { entry = entry_of e; place = place_in rest })) × (left_of rest ≡ drop (w.entry + 1) (entries (clause_of walk.clause.now)))
+    → (slice_get (entries (clause_of walk.clause.now)) w.entry ≡ Some (record { entry = entry_of e; place = last_place rest })) × (left_of rest ≡ drop (w.entry + 1) (entries (clause_of walk.clause.now)))
 walk_given slots walk rest w e h ahead gives =
-    given_at (entries (clause_of walk.clause.now)) gives.0 (left_of rest) walk.next w.entry (record { entry = entry_of e; place = place_in rest }) (sym h.left ∙ gives.2) (omega (arith, gives.1, ahead))
+    given_at (entries (clause_of walk.clause.now)) gives.0 (left_of rest) walk.next w.entry (record { entry = entry_of e; place = last_place rest }) (sym h.left ∙ gives.2) (omega (arith, gives.1, ahead))
 
 -- and it comes to one, where the clause has it
 pub walk_goes_on : (slots : Slots) (walk : ClauseWalk) (rest : Entries) (w : Wanted) (hit : ℕ × Placed) → PlacesRise slots → IsWalk slots walk → walk.slot ≡ w.slot → IsHitAt slots w hit → walk.next ≤ w.entry

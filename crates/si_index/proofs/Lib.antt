@@ -22,4 +22,3 @@ pub mod StandingLaws
 pub mod StoreLaws
 pub mod HeldClauses
 pub mod WantedLaws
-mod VariableLaws

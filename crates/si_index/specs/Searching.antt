@@ -5,7 +5,7 @@ use Rattle.si_defs.specs.Bytes.{Bytes}
 use Rattle.si_defs.specs.Terms.{size, sizes, symbols, symbols_of_all}
 use Rattle.si_defs.specs.Symbols.{Numbering, IsNumbering}
 use Rattle.si_defs.specs.Clauses.{Term, Terms, Clause, Pattern, literal_pattern, term_pattern, IsSoundTerm, AreSoundTerms, IsSoundClause, IsSoundPattern}
-use Rattle.si_defs.specs.Entries.{Entry, literal_entry, term_entry, Placed, pattern_entry, clause_symbols, distinct_variables}
+use Rattle.si_defs.specs.Entries.{Entry, literal_entry, term_entry, Placed, pattern_entry, clause_symbols, distinct_variables, whole_of}
 use Rattle.si_defs.specs.Variables.{Solution}
 use Rattle.si_defs.specs.declared.TheConstants.{MOST_OCCURRENCES}
 use Rattle.si_defs.specs.declared.Relation.{Relation}
@@ -16,7 +16,7 @@ use Rattle.si_flat.specs.declared.Cell.{Cell}
 use Rattle.si_flat.specs.Cells as cells
 use Rattle.si_flat.specs.Cells.{StandsFor}
 use Rattle.si_flat.specs.Numbered.{number_in}
-use Rattle.si_flat.specs.Flattened.{IsNumberedBy, IsSoundEntry, FlattensPattern, numbered_entry, whole_of, query_numbers}
+use Rattle.si_flat.specs.Flattened.{IsNumberedBy, IsSoundEntry, FlattensPattern, numbered_entry, query_numbers}
 use Rattle.si_form.specs.declared.solution.Binding.{Binding}
 use Rattle.si_form.specs.Answers.{Answers, StandsForList}
 use Rattle.si_form.specs.Numberings.{variable_by, list_by, symbols_of}

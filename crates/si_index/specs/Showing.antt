@@ -4,13 +4,13 @@ use Rattle.std.specs.List.{AllByRecursion}
 use Rattle.si_defs.specs.Terms.{firsts, symbols}
 use Rattle.si_defs.specs.Symbols.{Numbering, same_symbol}
 use Rattle.si_defs.specs.Clauses.{Pattern}
-use Rattle.si_defs.specs.Entries.{Entry, Placed, distinct_variables, pattern_entry}
+use Rattle.si_defs.specs.Entries.{Entry, Placed, distinct_variables, pattern_entry, whole_of}
 use Rattle.si_defs.specs.Variables.{Solution}
 use Rattle.si_defs.specs.declared.Relation.{Relation}
 use Rattle.si_state.specs.Answers.{Solves}
 use Rattle.si_term.specs.Terms.{symbol_of}
 use Rattle.si_flat.specs.Numbered.{number_in}
-use Rattle.si_flat.specs.Flattened.{unnumbered, whole_of, query_numbers}
+use Rattle.si_flat.specs.Flattened.{unnumbered, query_numbers}
 use Rattle.si_form.specs.Answers.{StandsForList}
 use Rattle.si_form.specs.Numberings.{variable_by, list_by, symbols_of}
 use Rattle.si_form.specs.SolutionParts.{IsBindingOf}

@@ -144,7 +144,7 @@ impl<'a> Found<'a> {
         let list = list_of(leaf);
         Ok(Shown {
             solution: list.copy(search.alloc)?,
-            query_names: copy_names(search.alloc, &self.query_names)?,
+            query_names: self.query_names.copy(search.alloc)?,
             entry_names: vars_of(search.alloc, found.entry)?,
             extra: copy_symbols(search.alloc, &search.query.extra)?,
         })
@@ -175,17 +175,6 @@ fn list_of(leaf: &Leaf) -> &Solution
     leaf.list.as_ref().unwrap()
 }
 
-// Equal names.
-fn copy_names(alloc: Global, names: &Texts) -> Result<Texts, AllocError>
-    ensures { IfOk result (λ copies. copies ≡ names.now) }
-{
-    let mut copies = Texts::with_capacity(alloc, names.len())?;
-    for name in names.as_slice() {
-        copies.push(name.copy(alloc)?)?;
-    }
-    Ok(copies)
-}
-
 // Equal symbols.
 fn copy_symbols(alloc: Global, symbols: &Syms) -> Result<Syms, AllocError>
     ensures { IfOk result (λ copies. map symbol_of copies ≡ map symbol_of symbols.now) }
@@ -211,7 +200,7 @@ impl Index {
     ghost use Rattle.si_index.specs.Searching.{HasSolution};
     ghost use Rattle.si_index.specs.Engines.{AnswersStanding, Finds};
 
-    /// The entries of what the engine answers to the pattern, in the order of acceptance and of
+    /// Finds the entries that the engine answers to the pattern, in the order of acceptance and of
     /// entries, each with its canonical list.
     ///
     /// The engine is asked once, among literals for a literal pattern, and else among subterms.
@@ -238,13 +227,16 @@ impl Index {
         let stats = self.stats();
         let signature = self.signature();
         let named = flatten_with_names(alloc, signature, pattern)?;
+        // What the engine answers, in whatever order, and what it counts.
         let mut postings = Vec::new(alloc);
         let literal = asks_literals(pattern);
         let passed = engine.ask(memory, literal, relation, &named.query.flat, &mut postings)?;
+        // Where these entries stand, in order, and the leaves of the tree that have them.
         let trees = self.trees();
         let slots = self.slots();
         let ordered = in_order(self, &slots, trees, literal, postings.as_slice())?;
         let Ordered { places, leaves } = ordered;
+        // What is shown of each: its place, its clause, and the list of its leaf.
         let search = Search {
             alloc,
             index: self,

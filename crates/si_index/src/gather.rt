@@ -1,14 +1,14 @@
 // The entries that an engine answered, each with its place and its list.
-ghost use Rattle.std.specs.Prelude.{◌≡◌, ℕ, ◌+◌, [], IfOk, OnOk, map};
-ghost use Rattle.std.specs.List.{AllByRecursion, AllZip};
+ghost use Rattle.std.specs.Prelude.{◌≡◌, ℕ, ◌+◌, IfOk, OnOk};
+ghost use Rattle.std.specs.List.{AllByRecursion};
 ghost use Rattle.si_defs.specs.Entries.{Placed};
 ghost use Rattle.si_term.specs.Meaning.{entry_of};
 ghost use Rattle.si_state.specs.Answers.{Stands};
-ghost use Rattle.si_entries.specs.Walks.{place_in};
+ghost use Rattle.si_entries.specs.Walks.{last_place};
 ghost use Rattle.si_keyed.specs.Placed.{HasPlace};
 ghost use Rattle.si_index.specs.Leaves.{AreUnmade, StayMade};
-ghost use Rattle.si_index.specs.Searching.{numbers_of, pattern_in, IsReady, IsKnownEntry, IsOfLeaf, AreMade, HasList, AreMatches, hit_of};
-ghost use Rattle.si_index.specs.Gathering.{Rise, IsAhead, IsHitAt, IsStandingAt, IsWalk, Adds};
+ghost use Rattle.si_index.specs.Searching.{numbers_of, pattern_in, IsReady, IsKnownEntry, IsOfLeaf, AreMade, HasList, AreMatches};
+ghost use Rattle.si_index.specs.Gathering.{Rise, IsAhead, IsHitAt, IsStandingAt, IsWalk, Adds, MayGather, AreGathered};
 
 use crate::found::Hit;
 use crate::search::{Search, Workspace};
@@ -95,7 +95,7 @@ impl<'a> ClauseWalk<'a> {
           self.new.position,
           record {
             entry = entry_of entry;
-            place = place_in self.new.entries;
+            place = last_place self.new.entries;
           },
         )) }
     {
@@ -130,7 +130,7 @@ fn add<'a>(
       walk.now.position,
       record {
         entry = entry_of entry.entry;
-        place = place_in walk.now.entries;
+        place = last_place walk.now.entries;
       },
     )
         matches.old matches.new) }
@@ -190,9 +190,7 @@ pub(crate) fn gather<'a>(
     requires unmade { AreUnmade leaves.items }
     requires stand { AllByRecursion (IsStandingAt search.now leaves.items) places.now }
     requires rise { Rise places.now }
-    ensures each { IfOk result (AreMatches search.now) }
-    ensures hits { IfOk result (λ ms. AllZip (IsHitAt search.now.slots) places.now
-        (map hit_of ms.found.items)) }
+    ensures { IfOk result (AreGathered search.now places.now) }
 {
     let mut matches = Matches {
         found: Vec::with_capacity(search.alloc, places.len())?,
@@ -208,14 +206,8 @@ fn gather_into<'a>(
     places: &[Wanted],
     matches: &mut Matches<'a>,
 ) -> Result<(), AllocError>
-    requires ready { IsReady search.now }
-    requires unmade { AreUnmade matches.old.leaves.items }
-    requires stand { AllByRecursion (IsStandingAt search.now matches.old.leaves.items) places.now }
-    requires rise { Rise places.now }
-    requires none { matches.old.found.items ≡ [] }
-    ensures each { OnOk result (AreMatches search.now matches.new) }
-    ensures hits { OnOk result (AllZip (IsHitAt search.now.slots) places.now
-        (map hit_of matches.new.found.items)) }
+    requires { MayGather search.now places.now matches.old }
+    ensures { OnOk result (AreGathered search.now places.now matches.new) }
 {
     let mut workspace = Workspace::new(search.alloc);
     gather_in(search, places, &mut workspace, matches)
@@ -228,14 +220,8 @@ fn gather_in<'a>(
     workspace: &mut Workspace<'a>,
     matches: &mut Matches<'a>,
 ) -> Result<(), AllocError>
-    requires ready { IsReady search.now }
-    requires unmade { AreUnmade matches.old.leaves.items }
-    requires stand { AllByRecursion (IsStandingAt search.now matches.old.leaves.items) places.now }
-    requires rise { Rise places.now }
-    requires none { matches.old.found.items ≡ [] }
-    ensures each { OnOk result (AreMatches search.now matches.new) }
-    ensures hits { OnOk result (AllZip (IsHitAt search.now.slots) places.now
-        (map hit_of matches.new.found.items)) }
+    requires { MayGather search.now places.now matches.old }
+    ensures { OnOk result (AreGathered search.now places.now matches.new) }
 {
     let Some(first) = places.first() else {
         return Ok(());
@@ -254,17 +240,11 @@ fn walk_through<'a>(
     workspace: &mut Workspace<'a>,
     matches: &mut Matches<'a>,
 ) -> Result<(), AllocError>
-    requires ready { IsReady search.now }
     requires query { query.now ≡ search.now.query.flat }
     requires walk { IsWalk search.now.slots walk.old }
     requires next { walk.old.next ≡ 0 }
-    requires unmade { AreUnmade matches.old.leaves.items }
-    requires stand { AllByRecursion (IsStandingAt search.now matches.old.leaves.items) places.now }
-    requires rise { Rise places.now }
-    requires none { matches.old.found.items ≡ [] }
-    ensures each { OnOk result (AreMatches search.now matches.new) }
-    ensures hits { OnOk result (AllZip (IsHitAt search.now.slots) places.now
-        (map hit_of matches.new.found.items)) }
+    requires may { MayGather search.now places.now matches.old }
+    ensures { OnOk result (AreGathered search.now places.now matches.new) }
 {
     for place in places {
         let entry = walk.go_to(search, *place)?;

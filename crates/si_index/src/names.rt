@@ -3,13 +3,12 @@ ghost use Rattle.std.specs.Prelude.{◌≡◌, List, ℕ, None, OnOk, OnErr};
 ghost use Rattle.si_defs.specs.Clauses as defs;
 ghost use Rattle.si_term.specs.Meaning.{name_of};
 ghost use Rattle.si_sign.specs.Hashed.{hashed_key};
-ghost use Rattle.si_index.specs.Names.{key_of_name, key_of, same_name, AreNamed, NameLeadsAway, NameLeadsTo, NamesStayLed};
+ghost use Rattle.si_index.specs.Names.{key_of_name, key_of, AreNamed, NameLeadsAway, NameLeadsTo, NamesStayLed};
 
 use crate::name_keys::NameKeys;
-use si_defs::NameKind;
 use si_keyed::KeyedList;
 use si_lanes::Row;
-use si_sign::HashedKeys;
+use si_sign::{HashedKeys, is_same_name};
 use si_term::{Clause, Name};
 use std::alloc::{AllocError, Global};
 
@@ -45,7 +44,7 @@ impl ClauseNames {
         let Some(kept) = clauses.get(key) else {
             return self.others.get(name);
         };
-        if is_same(&kept.name, name) {
+        if is_same_name(&kept.name, name) {
             return Some(key);
         }
         self.others.get(name)
@@ -68,16 +67,5 @@ impl ClauseNames {
     {
         self.hashed.remove(name.text.as_bytes(), key);
         self.others.remove(name);
-    }
-}
-
-/// Whether two names are equal.
-fn is_same(one: &Name, other: &Name) -> bool
-    ensures { result ≡ same_name (name_of one.now) (name_of other.now) }
-{
-    match (one.kind, other.kind) {
-        (NameKind::Word, NameKind::Word) => one.text.as_bytes() == other.text.as_bytes(),
-        (NameKind::Int, NameKind::Int) => one.text.as_bytes() == other.text.as_bytes(),
-        _ => false,
     }
 }

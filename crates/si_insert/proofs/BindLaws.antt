@@ -12,7 +12,7 @@ use Rattle.si_flat.specs.declared.Cell.{Cell}
 use Rattle.si_flat.specs.Rows.{CellPair, left_sides}
 use Rattle.si_flat.proofs.RowLaws.{distinct_parts}
 use Rattle.si_legal.specs.Bindings.{Binding, right_indicators, StandForBindings}
-use Rattle.si_changes.proofs.Borrowed.{occurs_not}
+use Rattle.si_legal.proofs.SplitLaws.{occurs_not}
 use Rattle.si_insert.specs.declared.open.Opened.{Opened}
 use Rattle.si_insert.specs.Opened.{numbers, term_at, AreWithin, with_bound, open_pairs}
 use Rattle.si_insert.specs.Fitting.{all_pairs, OpensFor}

@@ -13,7 +13,7 @@ use Rattle.si_flat.specs.Rows.{CellPair, left_sides}
 use Rattle.si_flat.proofs.RowLaws.{distinct_parts}
 use Rattle.si_legal.specs.Bindings.{Binding, indicator, indicators, indicators_among, applied, substitution_of, StandForBindings}
 use Rattle.si_legal.proofs.Splitting.{indicators_all, indicators-more}
-use Rattle.si_mscg.proofs.WalkLaws.{sound-join, count-join}
+use Rattle.si_unify.proofs.Rows.{sound-join, count-join, substitute-join, count-substitute, join_injective}
 use Rattle.si_insert.specs.declared.open.Opened.{Opened}
 use Rattle.si_insert.specs.Opened.{numbers, term_at}
 use Rattle.si_insert.specs.Fitting.{Fits, all_pairs, OpensFor}
@@ -25,26 +25,6 @@ abbrev pub applied_all : List Binding → Terms → Terms
 applied_all bs ts = terms.substitute_all (images bs) ts
 
 -- ---- rows
--- two rows that are put together of as many terms are the same part by part
-pub same_parts : (xs ys ts us : Terms) → terms.count xs ≡ terms.count ys → join xs ts ≡ join ys us → (xs ≡ ys) × (ts ≡ us)
-same_parts terms.none terms.none ts us counts e = (refl, e)
-same_parts terms.none (terms.more y ys) ts us counts e = absurd (omega (arith, counts))
-same_parts (terms.more x xs) terms.none ts us counts e = absurd (omega (arith, counts))
-same_parts (terms.more x xs) (terms.more y ys) ts us counts e =
-    let h = same_more x y (join xs ts) (join ys us) e in
-    let rest = same_parts xs ys ts us (omega (arith, counts)) h.1 in (
-      λ i. terms.more (h.0 i) (rest.0 i),
-      rest.1,
-    )
-
-pub substitute-join : (f : Variable → Term) (ts us : Terms) → terms.substitute_all f (join ts us) ≡ join (terms.substitute_all f ts) (terms.substitute_all f us)
-substitute-join f terms.none us = refl
-substitute-join f (terms.more t ts) us = ap (terms.more (terms.substitute f t)) (substitute-join f ts us)
-
-pub count-substitute : (f : Variable → Term) (ts : Terms) → terms.count (terms.substitute_all f ts) ≡ terms.count ts
-count-substitute f terms.none = refl
-count-substitute f (terms.more t ts) = omega (arith, count-substitute f ts)
-
 pub indicators-join : (ts us : Terms) → indicators_all (join ts us) ≡ indicators_all ts ++ indicators_all us
 indicators-join terms.none us = refl
 indicators-join (terms.more t ts) us =
@@ -155,8 +135,8 @@ symbol_passed cells t u s xs ys ts us old now counts r =
       counts = count-join xs ts ∙ omega (arith, r.counts, counts, count-join ys us);
       distinct = subst (λ l. AreDistinct (numbers now ++ l)) same r.distinct;
       gives = λ bs lefts gives.
-          let parts = same_parts (applied_all bs xs) ys (applied_all bs ts) us (count-substitute (images bs) xs ∙ counts) (sym (substitute-join (images bs) xs ts) ∙ gives) in
-          r.gives bs (lefts ∙ sym same) (λ i. terms.more (terms.app s (parts.0 i)) (parts.1 i));
+          let parts = join_injective (applied_all bs xs) (applied_all bs ts) ys us (count-substitute (images bs) xs ∙ counts) (sym (substitute-join (images bs) xs ts) ∙ gives) in
+          r.gives bs (lefts ∙ sym same) (λ i. terms.more (terms.app s (parts.front i)) (parts.back i));
       given = λ bs e.
           let two = same_more _ _ _ _ (r.given bs e) in
           substitute-join (images bs) xs ts ∙ (λ i. join ((same_app _ _ _ _ two.0).1 i) (two.1 i));

@@ -5,7 +5,7 @@ use Rattle.std.proofs.lemmas.List.{get_or-drop, length-drop, drop-drop}
 use Rattle.std.proofs.Math.Seq.{drop-append_seam}
 use Rattle.si_defs.specs.Terms as terms
 use Rattle.si_defs.specs.Substitutions.{IsAmong, AreDistinct}
-use Rattle.si_defs.proofs.ListLaws.{same_head, same_tail}
+use Rattle.si_defs.proofs.ListLaws.{same_first, same_tail}
 use Rattle.si_defs.proofs.TermLaws.{same_more}
 use Rattle.si_flat.specs.declared.Cell.{Cell}
 use Rattle.si_flat.specs.declared.Cell.TheVariants as cell
@@ -17,7 +17,7 @@ use Rattle.si_unify.proofs.Reading.{one_term}
 use Rattle.si_legal.specs.Bindings.{Binding, indicator, indicators, indicators_among, applied}
 use Rattle.si_legal.proofs.Splitting.{indicators_all, indicators-more, symbol_is, symbol_self}
 use Rattle.si_mscg.specs.Generalising.{same_head_cell}
-use Rattle.si_mscg.proofs.WalkLaws.{cells-join}
+use Rattle.si_unify.proofs.Rows.{cells-join}
 use Rattle.si_insert.specs.declared.open.Opened.{Opened}
 use Rattle.si_insert.specs.Opened.{numbers, term_at}
 use Rattle.si_insert.specs.Fitting.{Fits, OpensFitting}
@@ -182,11 +182,11 @@ same_turn c rest cells place t u old now d plain same r = by r.a r.b r.node_are 
   }
 
   by : (a b : Term) → c ∷ rest ≡ cells_of a ++ cells_of_all r.ts → drop (place + 1) cells ≡ inner_cells b ++ (cells_of_all r.us ++ r.after) → same_head_cell c (head_cell b) ≡ true → Remains cells t u old now (terms.more a r.ts) (terms.more b r.us) → LeftToFit rest cells (place + 1) t u old now
-  by (terms.var (ind n)) b e inside told left = absurd (plain n (same_head e))
-  by (terms.var (entry m)) b e inside told left = variable_turn (entry m) b (λ bs. stays_entry bs m) refl (entry_told m b (ap (λ x. same_head_cell x (head_cell b)) (sym (same_head e)) ∙ told)) e inside left
-  by (terms.var (query m)) b e inside told left = variable_turn (query m) b (λ bs. stays_query bs m) refl (query_told m b (ap (λ x. same_head_cell x (head_cell b)) (sym (same_head e)) ∙ told)) e inside left
+  by (terms.var (ind n)) b e inside told left = absurd (plain n (same_first e))
+  by (terms.var (entry m)) b e inside told left = variable_turn (entry m) b (λ bs. stays_entry bs m) refl (entry_told m b (ap (λ x. same_head_cell x (head_cell b)) (sym (same_first e)) ∙ told)) e inside left
+  by (terms.var (query m)) b e inside told left = variable_turn (query m) b (λ bs. stays_query bs m) refl (query_told m b (ap (λ x. same_head_cell x (head_cell b)) (sym (same_first e)) ∙ told)) e inside left
   by (terms.app s xs) b e inside told left =
-      let known = symbol_told s (1 + terms.sizes xs) b (ap (λ x. same_head_cell x (head_cell b)) (sym (same_head e)) ∙ told) in
+      let known = symbol_told s (1 + terms.sizes xs) b (ap (λ x. same_head_cell x (head_cell b)) (sym (same_first e)) ∙ told) in
       symbol_turn s xs known.0 e (inside ∙ ap (λ v. inner_cells v ++ (cells_of_all r.us ++ r.after)) known.1) (subst (λ v. Remains cells t u old now (terms.more (terms.app s xs) r.ts) (terms.more v r.us)) known.1 left)
 
 -- the heads differ: no bindings give the term
@@ -201,10 +201,10 @@ differ_turn c rest cells place t u old now d plain differ r bs e = by r.a r.node
       cc
 
   by : (a : Term) → c ∷ rest ≡ cells_of a ++ cells_of_all r.ts → terms.substitute (images bs) a ≡ r.b → same_head_cell c (head_cell r.b) ≡ false → ⊥
-  by (terms.var (ind n)) e is told = plain n (same_head e)
-  by (terms.var (entry m)) e is told = clash r.b (cell.Entry m) (same_head e) (ap (λ v. same_head_cell (cell.Entry m) (head_cell v)) (sym is ∙ stays_entry bs m) ∙ eq-eqb m m refl) told
-  by (terms.var (query m)) e is told = clash r.b (cell.Query m) (same_head e) (ap (λ v. same_head_cell (cell.Query m) (head_cell v)) (sym is ∙ stays_query bs m) ∙ eq-eqb m m refl) told
-  by (terms.app s xs) e is told = clash r.b (head_cell (terms.app s xs)) (same_head e) (ap (λ v. same_head_cell (head_cell (terms.app s xs)) (head_cell v)) (sym is) ∙ symbol_self s) told
+  by (terms.var (ind n)) e is told = plain n (same_first e)
+  by (terms.var (entry m)) e is told = clash r.b (cell.Entry m) (same_first e) (ap (λ v. same_head_cell (cell.Entry m) (head_cell v)) (sym is ∙ stays_entry bs m) ∙ eq-eqb m m refl) told
+  by (terms.var (query m)) e is told = clash r.b (cell.Query m) (same_first e) (ap (λ v. same_head_cell (cell.Query m) (head_cell v)) (sym is ∙ stays_query bs m) ∙ eq-eqb m m refl) told
+  by (terms.app s xs) e is told = clash r.b (head_cell (terms.app s xs)) (same_first e) (ap (λ v. same_head_cell (head_cell (terms.app s xs)) (head_cell v)) (sym is) ∙ symbol_self s) told
 
 -- nothing is left: what was found gives the term
 pub all_fits : (cells : List Cell) (place : ℕ) (t u : Term) (old now : List Opened) → LeftToFit [] cells place t u old now → OpensFitting cells old now t u

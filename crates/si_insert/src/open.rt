@@ -1,10 +1,10 @@
 // The indicators that a path opens, and where in a term stands what they stand for.
 ghost use Rattle.std.specs.Prelude.{◌≡◌, ◌<◌, ◌≤◌, [], ◌∷◌, ◌++◌, false, IfOk, OnOk, OnErr, length, take};
-ghost use Rattle.si_defs.specs.Substitutions.{IsAmong, Grows};
+ghost use Rattle.si_defs.specs.Substitutions.{IsAmong};
 ghost use Rattle.si_flat.specs.Cells.{IsWhole};
 ghost use Rattle.si_insert.specs.Opened.{numbers, IsPlaceOf, with_bound, open_pairs, AreWithin};
 
-use si_flat::{Bindings, sub};
+use si_flat::{Bindings, reach, sub};
 use std::alloc::{AllocError, Global};
 use std::marker::Model;
 
@@ -84,7 +84,7 @@ impl Openings {
             ++ record { indicator = indicator; at = at; bound = false } ∷ []) }
         ensures err { OnErr result (self.new ≡ self.old) }
     {
-        reach(&mut self.places, indicator)?;
+        reach(&mut self.places, indicator, 0)?;
         self.opened.push(Opened {
             indicator,
             at,
@@ -131,16 +131,4 @@ impl Openings {
         }
         bindings.copy(alloc)
     }
-}
-
-// Has the table reach to this number.
-fn reach(places: &mut Vec<usize>, number: u32) -> Result<(), AllocError>
-    ensures grows { Grows places.old.items places.new.items }
-    ensures ok { OnOk result (number < length places.new.items) }
-{
-    let place = number as usize;
-    if places.len() <= place {
-        places.resize(place + 1, 0)?;
-    }
-    Ok(())
 }

@@ -1,45 +1,47 @@
 -- Texts of lines, one after the other.
-use Rattle.std.proofs.Common.{◌≡◌, ℕ, zero, suc, ◌+◌, ◌-◌, ◌<◌, ◌≤◌, List, [], ◌∷◌, ◌++◌, Result, Ok, Err, refl, sym, ap, subst, ◌∙◌, append_assoc, append-nil, arith}
+use Rattle.std.proofs.Common.{◌≡◌, ℕ, zero, suc, ◌+◌, ◌-◌, ◌<◌, ◌≤◌, List, [], ◌∷◌, ◌++◌, Result, Ok, Err, sym, ap, subst, ◌∙◌, append-nil, arith}
 use Rattle.std.proofs.lemmas.List.Folds.{concat-append}
 use Rattle.std.specs.Prelude.{IsErrAnd}
-use Rattle.std.specs.List.{concat}
+use Rattle.std.specs.List.{AllZip, concat, range_with_len}
 use Rattle.si_io.specs.declared.failed.Failed.{Failed}
 use Rattle.si_io.specs.Shown.{SinkShown}
 use Rattle.si_io.specs.Sends.{SendsAll, SendsPart, Sends}
-use Rattle.si_io.specs.Lines.{AreTexts, HaveTexts, WritesLines}
+use Rattle.si_io.specs.Lines.{HaveTexts, WritesLines}
 use Rattle.si_io.proofs.Sends.{SendsAll-nil, SendsAll_then, SendsPart_then, SendsPart_more, Sends_then}
 
 module _ (line : ℕ → List ℕ → Type 0) where
   -- some, and then more
-  texts-append : (from m n mid whole : ℕ) (xs ys : List (List ℕ)) → m + from ≡ mid → m + n ≡ whole → AreTexts line from m xs → AreTexts line mid n ys → AreTexts line from whole (xs ++ ys)
-  texts-append from zero n mid whole xs ys at sum h k =
+  texts-append : (from m n mid whole : ℕ) (xs ys : List (List ℕ)) → m + from ≡ mid → m + n ≡ whole → AllZip line (range_with_len from m) xs → AllZip line (range_with_len mid n) ys → AllZip line (range_with_len from whole) (xs ++ ys)
+  texts-append from zero n mid whole [] ys at sum h k =
       let here : mid ≡ from = omega (arith, at) in
       let all : n ≡ whole = omega (arith, sum) in
-      subst (λ (l : List (List ℕ)). AreTexts line from whole (l ++ ys)) (sym h) (subst (λ (w : ℕ). AreTexts line from w ys) all (subst (λ (i : ℕ). AreTexts line i n ys) here k))
+      subst (λ (w : ℕ). AllZip line (range_with_len from w) ys) all (subst (λ (i : ℕ). AllZip line (range_with_len i n) ys) here k)
+  texts-append from zero n mid whole (x ∷ xs) ys at sum h k = absurd h
   texts-append from (suc m) n mid zero xs ys at sum h k = absurd (omega (arith, sum))
-  texts-append from (suc m) n mid (suc whole) xs ys at sum h k =
-      (h.0, h.1 ++ ys, h.2, texts-append (suc from) m n mid whole h.1 ys (omega (arith, at)) (omega (arith, sum)) h.3 k, ap (λ (l : List (List ℕ)). l ++ ys) h.4)
+  texts-append from (suc m) n mid (suc whole) [] ys at sum h k = absurd h
+  texts-append from (suc m) n mid (suc whole) (x ∷ xs) ys at sum h k =
+      (h.0, texts-append (from + 1) m n mid whole xs ys (omega (arith, at)) (omega (arith, sum)) h.1 k)
 
   -- one more after them
-  texts-more : (n : ℕ) (xs : List (List ℕ)) (text : List ℕ) → AreTexts line 0 n xs → line n text → AreTexts line 0 (n + 1) (xs ++ text ∷ [])
-  texts-more n xs text h l = texts-append 0 n 1 n (n + 1) xs (text ∷ []) (omega arith) (omega arith) h (text, [], l, refl, refl)
+  texts-more : (n : ℕ) (xs : List (List ℕ)) (text : List ℕ) → AllZip line (range_with_len 0 n) xs → line n text → AllZip line (range_with_len 0 (n + 1)) (xs ++ text ∷ [])
+  texts-more n xs text h l = texts-append 0 n 1 n (n + 1) xs (text ∷ []) (omega arith) (omega arith) h (l, tt)
 
   -- all that are left
-  texts-left : (count : ℕ) → HaveTexts line count → (from many : ℕ) → from + many ≤ count → (texts : List (List ℕ)) × AreTexts line from many texts
-  texts-left count has from zero within = ([], refl)
+  texts-left : (count : ℕ) → HaveTexts line count → (from many : ℕ) → from + many ≤ count → (texts : List (List ℕ)) × AllZip line (range_with_len from many) texts
+  texts-left count has from zero within = ([], tt)
   texts-left count has from (suc many) within =
       let this = has from (omega (arith, within)) in
-      let others = texts-left count has (suc from) many (omega (arith, within)) in
-      (this.0 ∷ others.0, (this.0, others.0, this.1, others.1, refl))
+      let others = texts-left count has (from + 1) many (omega (arith, within)) in
+      (this.0 ∷ others.0, (this.1, others.1))
 
   -- The first lines were written.
   pub record WroteTo (n : ℕ) (before now : SinkShown) : Type 0 where
     pub texts : List (List ℕ)
-    pub are : AreTexts line 0 n texts
+    pub are : AllZip line (range_with_len 0 n) texts
     pub sent : SendsAll before (concat texts) now
 
   pub wrote_none : (before : SinkShown) → WroteTo 0 before before
-  wrote_none before = record { texts = []; are = refl; sent = SendsAll-nil before }
+  wrote_none before = record { texts = []; are = tt; sent = SendsAll-nil before }
 
   with_this : (xs : List (List ℕ)) (text : List ℕ) → concat (xs ++ text ∷ []) ≡ concat xs ++ text
   with_this xs text = concat-append xs (text ∷ []) ∙ ap (λ (l : List ℕ). concat xs ++ l) (append-nil text)
@@ -54,7 +56,7 @@ module _ (line : ℕ → List ℕ → Type 0) where
   pub wrote_all : (n count : ℕ) (before now : SinkShown) → n ≡ count → WroteTo n before now → WritesLines {T = Unit {0}} {E = Failed} line count [] (Ok (tt {0})) before now
   wrote_all n count before now is w = (
     w.texts,
-    subst (λ (m : ℕ). AreTexts line 0 m w.texts) is w.are,
+    subst (λ (m : ℕ). AllZip line (range_with_len 0 m) w.texts) is w.are,
     record { all = subst (λ (l : List ℕ). SendsAll before l now) (sym (append-nil (concat w.texts))) w.sent; part = tt },
   )
 
@@ -90,4 +92,7 @@ module _ (line : ℕ → List ℕ → Type 0) where
 
   -- no line stands before the last one
   pub only_last : (last : List ℕ) (r : Result (Unit {0}) Failed) (before after : SinkShown) → WritesLines line 0 last r before after → Sends r last before after
-  only_last last r before after h = subst (λ (ts : List (List ℕ)). Sends r (concat ts ++ last) before after) h.1 h.2
+  only_last last r before after h = by h.0 h.1 h.2 where
+    by : (texts : List (List ℕ)) → AllZip line [] texts → Sends r (concat texts ++ last) before after → Sends r last before after
+    by [] none sent = sent
+    by (text ∷ texts) none sent = absurd none

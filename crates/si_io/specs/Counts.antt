@@ -4,7 +4,7 @@ use Rattle.si_io.specs.declared.counts.SourceCounts.{SourceCounts}
 use Rattle.si_io.specs.declared.counts.SinkCounts.{SinkCounts}
 use Rattle.si_io.specs.declared.counts.LibraryCounts.{LibraryCounts}
 use Rattle.si_io.specs.declared.library.Fetched.{Fetched}
-use Rattle.si_io.specs.declared.library.Fetched.TheVariants.{Found, Missing, TooBig, Failed, Memory}
+use Rattle.si_io.specs.declared.library.Fetched.TheVariants.{File, Missing, TooBig, Failed, Memory}
 
 -- the count after n more
 abbrev pub raised_by : (n count : ℕ) → ℕ
@@ -60,7 +60,7 @@ write_counted size (Err e) counts =
 
 -- what a library counted after one more call with this answer
 abbrev pub fetch_counted : Fetched → LibraryCounts → LibraryCounts
-fetch_counted Found counts = record counts { calls = raised counts.calls }
+fetch_counted File counts = record counts { calls = raised counts.calls }
 fetch_counted Missing counts =
     record counts { calls = raised counts.calls; misses = raised counts.misses }
 fetch_counted TooBig counts =

@@ -6,7 +6,7 @@ use Rattle.std.specs.declared.io.Error.{Error}
 use Rattle.std.specs.declared.io.ErrorKind.{ErrorKind}
 use Rattle.std.specs.declared.io.ErrorKind.TheVariants.{NotFound}
 use Rattle.si_io.specs.declared.library.Fetched.{Fetched}
-use Rattle.si_io.specs.declared.library.Fetched.TheVariants.{Found, Missing, Failed}
+use Rattle.si_io.specs.declared.library.Fetched.TheVariants.{File, Missing, Failed}
 use Rattle.si_io.specs.Library.{IsFileRead}
 use Rattle.si_io.specs.Tries.{TriesWith}
 
@@ -26,9 +26,9 @@ is_not_found NotFound = true
 is_not_found _ = false
 
 -- whether the file's bytes are there
-abbrev pub is_found : Fetched → Bool
-is_found Found = true
-is_found answer = false
+abbrev pub is_file : Fetched → Bool
+is_file File = true
+is_file answer = false
 
 -- what a fetch answers where the file wasn't opened
 abbrev pub unfetched : Error → Fetched

@@ -1,5 +1,5 @@
 -- What a source, a sink and a library show of themselves.
-use Rattle.std.specs.Prelude.{ℕ, Bool, List, Option}
+use Rattle.std.specs.Prelude.{◌≡◌, ℕ, Bool, List, Option}
 use Rattle.si_io.specs.declared.counts.SourceCounts.{SourceCounts}
 use Rattle.si_io.specs.declared.counts.SinkCounts.{SinkCounts}
 use Rattle.si_io.specs.declared.counts.LibraryCounts.{LibraryCounts}
@@ -22,3 +22,8 @@ pub record LibraryShown : Type 0 where
   pub files : Option Files
   pub may_fail : Bool
   pub counts : LibraryCounts
+
+-- The library tells the same files as before, and may fail where it might before.
+pub record KeepsFiles (before after : LibraryShown) : Type 0 where
+  pub told : after.files ≡ before.files
+  pub same : after.may_fail ≡ before.may_fail

@@ -137,7 +137,7 @@ impl LibraryCounts {
             Fetched::Missing => self.misses = raised(self.misses, 1),
             Fetched::TooBig => self.bigs = raised(self.bigs, 1),
             Fetched::Failed => self.faults = raised(self.faults, 1),
-            Fetched::Found => {}
+            Fetched::File => {}
             Fetched::Memory => {}
         }
         answer

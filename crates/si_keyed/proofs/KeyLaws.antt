@@ -2,17 +2,17 @@
 use Rattle.std.proofs.Common.{◌≡◌, ◌⊎◌, inl, inr, ℕ, zero, suc, ◌+◌, ◌≤◌, List, [], ◌∷◌, ◌++◌, Some, length, slice_get, refl, sym, ap, ◌∙◌, subst, arith, length-append}
 use Rattle.std.proofs.lemmas.Option.{same_Some, none-some}
 use Rattle.si_defs.specs.Substitutions.{IsAmong}
-use Rattle.si_defs.proofs.ListLaws.{among_back, among_parts, get_among, same_head, same_tail, not_empty}
+use Rattle.si_defs.proofs.ListLaws.{among_back, among_parts, get_among, same_first, same_tail, not_empty}
 use Rattle.si_keyed.specs.Keyed.{item_keys, HasKey, IsTakenOut}
 
 -- what stands last is all that is taken away from there
 split_last : {A : Type 0} (xs before after : List A) (x y : A) → (IsAmong xs y → ⊥) → xs ++ x ∷ [] ≡ before ++ y ∷ after → before ++ after ≡ xs
 split_last [] [] after x y f h = sym (same_tail h)
 split_last [] (b ∷ bs) after x y f h = absurd (not_empty bs y after (same_tail h))
-split_last (z ∷ xs) [] after x y f h = absurd (f (inl (same_head h)))
+split_last (z ∷ xs) [] after x y f h = absurd (f (inl (same_first h)))
 split_last (z ∷ xs) (b ∷ bs) after x y f h =
     let rest = split_last xs bs after x y (λ k. f (inr k)) (same_tail h) in
-    λ i. sym (same_head h) i ∷ rest i
+    λ i. sym (same_first h) i ∷ rest i
 
 module _ {T : Type 0} where
   -- ---- items by keys

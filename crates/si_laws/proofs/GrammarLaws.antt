@@ -6,12 +6,12 @@ use Rattle.si_defs.specs.Symbols.{Symbol}
 use Rattle.si_defs.specs.Clauses.{Term, Terms, Literal, Name, Clause}
 use Rattle.si_defs.specs.Tokens.{Token, mark, upper}
 use Rattle.si_defs.specs.Grammar.{IsName, IsConstant, IsTerm, AreMoreTerms, IsSignedAtom, IsLiteral, AreMoreLiterals, IsDisjunction, IsFormula, IsClause, left_bracket, right_bracket, full_stop}
-use Rattle.si_defs.proofs.ListLaws.{same_head, same_tail}
-use Rattle.si_parse.specs.Parsing.{NoBracket, NoSign, NoLiteral}
-use Rattle.si_parse.specs.GrammarRules.{as_atom, positively, equation, equality_sign, IsStatement, IsNegated}
+use Rattle.si_defs.proofs.ListLaws.{same_first, same_tail}
+use Rattle.si_parse.specs.Parsing.{NoBracket, NoEquation, NoLiteral}
+use Rattle.si_parse.specs.GrammarRules.{as_atom, positively, equation, equation_sign, IsStatement, IsNegated}
 use Rattle.si_parse.proofs.GrammarTerms.{marks_apart, no_bracket, opens, symbol_kind, head_constant, constant_is, term_goes_on}
-use Rattle.si_parse.proofs.GrammarLiterals.{Spelled, headed, sided, spelled_of, no_sign-bracket, statement_first, mark_no_first, statement_no_mark, right_no_sign, sign_no_bracket, sign_never, signs_apart}
-use Rattle.si_parse.proofs.GrammarFormulas.{literal_last, bar_no_sign, bar_stops, closing_follows, same_brackets}
+use Rattle.si_parse.proofs.GrammarLiterals.{Spelled, headed, sided, spelled_of, no_equation-bracket, statement_first, mark_no_first, statement_no_mark, right_no_equation, equation_sign_no_bracket, equation_sign_never, equation_signs_apart}
+use Rattle.si_parse.proofs.GrammarFormulas.{literal_last, bar_no_equation, bar_stops, closing_follows, same_brackets}
 use Rattle.si_parse.proofs.GrammarNames.{name_kind, name_of_token}
 use Rattle.si_parse.proofs.GrammarNotes.{closed_follows}
 
@@ -42,22 +42,22 @@ mutual
   pub term_one : (m n : Term) (us vs xs ys : List Token) → us ++ xs ≡ vs ++ ys → IsTerm m us → IsTerm n vs → NoBracket xs → NoBracket ys → (m ≡ n) × (xs ≡ ys)
   term_one (terms.var x) (terms.var y) us vs xs ys e f g a b =
       let s = fronts us vs xs ys (upper x) (upper y) [] [] e f g in
-      (ap (λ (t : Token). terms.var t.text) (same_head s), same_tail s)
+      (ap (λ (t : Token). terms.var t.text) (same_first s), same_tail s)
   term_one (terms.var x) (terms.app r terms.none) us vs xs ys e f (side, arity, (u, const, g)) a b =
       let s = fronts us vs xs ys (upper x) u [] [] e f g in
-      absurd (none-some _ (ap (λ (t : Token). symbol_kind t.kind) (same_head s) ∙ (constant_is r.kind r.text u const).0))
+      absurd (none-some _ (ap (λ (t : Token). symbol_kind t.kind) (same_first s) ∙ (constant_is r.kind r.text u const).0))
   term_one (terms.var x) (terms.app r (terms.more n ns)) us vs xs ys e f (side, arity, (u, first, others, head, one, all, g)) a b =
       let s = fronts us vs xs ys (upper x) u [] (left_bracket ∷ (first ++ others) ++ right_bracket ∷ []) e f g in
-      absurd (none-some _ (ap (λ (t : Token). symbol_kind t.kind) (same_head s) ∙ (constant_is r.kind r.text u (head_constant r.kind r.text u head)).0))
+      absurd (none-some _ (ap (λ (t : Token). symbol_kind t.kind) (same_first s) ∙ (constant_is r.kind r.text u (head_constant r.kind r.text u head)).0))
   term_one (terms.app s terms.none) (terms.var y) us vs xs ys e (side, arity, (t, const, f)) g a b =
       let w = fronts us vs xs ys t (upper y) [] [] e f g in
-      absurd (none-some _ (sym (ap (λ (u : Token). symbol_kind u.kind) (same_head w)) ∙ (constant_is s.kind s.text t const).0))
+      absurd (none-some _ (sym (ap (λ (u : Token). symbol_kind u.kind) (same_first w)) ∙ (constant_is s.kind s.text t const).0))
   term_one (terms.app s (terms.more m ms)) (terms.var y) us vs xs ys e (side, arity, (t, first, others, head, one, all, f)) g a b =
       let w = fronts us vs xs ys t (upper y) (left_bracket ∷ (first ++ others) ++ right_bracket ∷ []) [] e f g in
-      absurd (none-some _ (sym (ap (λ (u : Token). symbol_kind u.kind) (same_head w)) ∙ (constant_is s.kind s.text t (head_constant s.kind s.text t head)).0))
+      absurd (none-some _ (sym (ap (λ (u : Token). symbol_kind u.kind) (same_first w)) ∙ (constant_is s.kind s.text t (head_constant s.kind s.text t head)).0))
   term_one (terms.app s terms.none) (terms.app r terms.none) us vs xs ys e (side, arity, (t, const, f)) (side', arity', (u, const', g)) a b =
       let w = fronts us vs xs ys t u [] [] e f g in
-      (ap (λ q. terms.app q terms.none) (same_symbol s r t u (same_head w) const const' (side ∙ sym side') (arity ∙ sym arity')), same_tail w)
+      (ap (λ q. terms.app q terms.none) (same_symbol s r t u (same_first w) const const' (side ∙ sym side') (arity ∙ sym arity')), same_tail w)
   term_one (terms.app s terms.none) (terms.app r (terms.more n ns)) us vs xs ys e (side, arity, (t, const, f)) (side', arity', (u, first, others, head, one, all, g)) a b =
       let w = fronts us vs xs ys t u [] (left_bracket ∷ (first ++ others) ++ right_bracket ∷ []) e f g in
       absurd (opens xs (((first ++ others) ++ right_bracket ∷ []) ++ ys) a (same_tail w))
@@ -69,15 +69,15 @@ mutual
       let inner = sym (regroup first others xs) ∙ same_tail (same_tail w) ∙ regroup front rest ys in
       let x = term_one m n first front (others ++ right_bracket ∷ xs) (rest ++ right_bracket ∷ ys) inner one two (more_bare ms others xs all) (more_bare ns rest ys every) in
       let y = terms_one ms ns others rest xs ys x.1 all every in
-      let symbol = same_symbol s r t u (same_head w) (head_constant s.kind s.text t head) (head_constant r.kind r.text u head') (side ∙ sym side') (arity ∙ ap (λ ts. 1 + terms.count ts) y.0 ∙ sym arity') in
+      let symbol = same_symbol s r t u (same_first w) (head_constant s.kind s.text t head) (head_constant r.kind r.text u head') (side ∙ sym side') (arity ∙ ap (λ ts. 1 + terms.count ts) y.0 ∙ sym arity') in
       ((λ i. terms.app (symbol i) (terms.more (x.0 i) (y.0 i))), y.1)
 
   terms_one : (ms ns : Terms) (us vs xs ys : List Token) → us ++ right_bracket ∷ xs ≡ vs ++ right_bracket ∷ ys → AreMoreTerms ms us → AreMoreTerms ns vs → (ms ≡ ns) × (xs ≡ ys)
   terms_one terms.none terms.none us vs xs ys e f g = (refl, same_tail (sym (ap (λ l. l ++ right_bracket ∷ xs) f) ∙ e ∙ ap (λ l. l ++ right_bracket ∷ ys) g))
   terms_one terms.none (terms.more n ns) us vs xs ys e f (first, others, one, all, g) =
-      absurd (marks_apart 41 44 (λ k. absurd (omega (arith, k))) (same_head (sym (ap (λ l. l ++ right_bracket ∷ xs) f) ∙ e ∙ ap (λ l. l ++ right_bracket ∷ ys) g)))
+      absurd (marks_apart 41 44 (λ k. absurd (omega (arith, k))) (same_first (sym (ap (λ l. l ++ right_bracket ∷ xs) f) ∙ e ∙ ap (λ l. l ++ right_bracket ∷ ys) g)))
   terms_one (terms.more m ms) terms.none us vs xs ys e (first, others, one, all, f) g =
-      absurd (marks_apart 44 41 (λ k. absurd (omega (arith, k))) (same_head (sym (ap (λ l. l ++ right_bracket ∷ xs) f) ∙ e ∙ ap (λ l. l ++ right_bracket ∷ ys) g)))
+      absurd (marks_apart 44 41 (λ k. absurd (omega (arith, k))) (same_first (sym (ap (λ l. l ++ right_bracket ∷ xs) f) ∙ e ∙ ap (λ l. l ++ right_bracket ∷ ys) g)))
   terms_one (terms.more m ms) (terms.more n ns) us vs xs ys e (first, others, one, all, f) (front, rest, two, every, g) =
       let w = same_tail (sym (ap (λ l. l ++ right_bracket ∷ xs) f) ∙ e ∙ ap (λ l. l ++ right_bracket ∷ ys) g) in
       let inner = sym (append_assoc first others (right_bracket ∷ xs)) ∙ w ∙ append_assoc front rest (right_bracket ∷ ys) in
@@ -86,29 +86,29 @@ mutual
       ((λ i. terms.more (x.0 i) (y.0 i)), y.1)
 
 -- ---- statements
-pub statement_one : (l k : Literal) (us vs xs ys : List Token) → us ++ xs ≡ vs ++ ys → IsStatement l us → IsStatement k vs → NoSign xs → NoSign ys → (l ≡ k) × (xs ≡ ys)
+pub statement_one : (l k : Literal) (us vs xs ys : List Token) → us ++ xs ≡ vs ++ ys → IsStatement l us → IsStatement k vs → NoEquation xs → NoEquation ys → (l ≡ k) × (xs ≡ ys)
 statement_one l k us vs xs ys e h i a b = by (spelled_of l us h) (spelled_of k vs i) where
-  parted : (positive : Bool) (ts front back rest : List Token) → ts ≡ front ++ equality_sign positive ∷ back → ts ++ rest ≡ front ++ (equality_sign positive ∷ back ++ rest)
-  parted positive ts front back rest w = ap (λ z. z ++ rest) w ∙ append_assoc front (equality_sign positive ∷ back) rest
+  parted : (positive : Bool) (ts front back rest : List Token) → ts ≡ front ++ equation_sign positive ∷ back → ts ++ rest ≡ front ++ (equation_sign positive ∷ back ++ rest)
+  parted positive ts front back rest w = ap (λ z. z ++ rest) w ∙ append_assoc front (equation_sign positive ∷ back) rest
 
   by : Spelled l us → Spelled k vs → (l ≡ k) × (xs ≡ ys)
   by (headed t one f p) (headed u two g q) =
-      let s = term_one t u us vs xs ys e one two (no_sign-bracket xs a) (no_sign-bracket ys b) in
+      let s = term_one t u us vs xs ys e one two (no_equation-bracket xs a) (no_equation-bracket ys b) in
       let atom : l.atom ≡ k.atom = same_Some _ _ (sym f ∙ ap as_atom s.0 ∙ g) in
       ((λ n. record { positive = (p ∙ sym q) n; atom = atom n }), s.1)
   by (headed t one f p) (sided left right front back two three g w) =
-      let s = term_one t left us front xs (equality_sign k.positive ∷ back ++ ys) (e ∙ parted k.positive vs front back ys w) one two (no_sign-bracket xs a) (sign_no_bracket k.positive (back ++ ys)) in
-      absurd (sign_never k.positive (back ++ ys) xs a s.1)
+      let s = term_one t left us front xs (equation_sign k.positive ∷ back ++ ys) (e ∙ parted k.positive vs front back ys w) one two (no_equation-bracket xs a) (equation_sign_no_bracket k.positive (back ++ ys)) in
+      absurd (equation_sign_never k.positive (back ++ ys) xs a s.1)
   by (sided left right front back one two f w) (headed u three g q) =
-      let s = term_one left u front vs (equality_sign l.positive ∷ back ++ xs) ys (sym (parted l.positive us front back xs w) ∙ e) one three (sign_no_bracket l.positive (back ++ xs)) (no_sign-bracket ys b) in
-      absurd (sign_never l.positive (back ++ xs) ys b (sym s.1))
+      let s = term_one left u front vs (equation_sign l.positive ∷ back ++ xs) ys (sym (parted l.positive us front back xs w) ∙ e) one three (equation_sign_no_bracket l.positive (back ++ xs)) (no_equation-bracket ys b) in
+      absurd (equation_sign_never l.positive (back ++ xs) ys b (sym s.1))
   by (sided left right front back one two f w) (sided first second before behind three four g z) =
       let s =
-      term_one left first front before (equality_sign l.positive ∷ back ++ xs) (equality_sign k.positive ∷ behind ++ ys)
-      (sym (parted l.positive us front back xs w) ∙ e ∙ parted k.positive vs before behind ys z) one three (sign_no_bracket l.positive (back ++ xs)) (sign_no_bracket k.positive (behind ++ ys)) in
-      let r = term_one right second back behind xs ys (same_tail s.1) two four (no_sign-bracket xs a) (no_sign-bracket ys b) in
+      term_one left first front before (equation_sign l.positive ∷ back ++ xs) (equation_sign k.positive ∷ behind ++ ys)
+      (sym (parted l.positive us front back xs w) ∙ e ∙ parted k.positive vs before behind ys z) one three (equation_sign_no_bracket l.positive (back ++ xs)) (equation_sign_no_bracket k.positive (behind ++ ys)) in
+      let r = term_one right second back behind xs ys (same_tail s.1) two four (no_equation-bracket xs a) (no_equation-bracket ys b) in
       let atom : l.atom ≡ k.atom = sym f ∙ (λ n. equation (s.0 n) (r.0 n)) ∙ g in
-      ((λ n. record { positive = signs_apart l.positive k.positive (same_head s.1) n; atom = atom n }), r.1)
+      ((λ n. record { positive = equation_signs_apart l.positive k.positive (same_first s.1) n; atom = atom n }), r.1)
 
 -- ---- literals
 -- a literal is a statement, or a tilde and an atom
@@ -119,7 +119,7 @@ plain_or_tilde false m ts (inl (us, h, g)) = inr (refl, (us, inl h, g))
 plain_or_tilde false m ts (inr (inl (us, h, g))) = inr (refl, (left_bracket ∷ us ++ right_bracket ∷ [], inr (us, h, refl), g))
 plain_or_tilde false m ts (inr (inr h)) = inl h
 
-negated_one : (m n : Term) (us vs xs ys : List Token) → us ++ xs ≡ vs ++ ys → IsNegated m us → IsNegated n vs → NoSign xs → NoSign ys → (m ≡ n) × (xs ≡ ys)
+negated_one : (m n : Term) (us vs xs ys : List Token) → us ++ xs ≡ vs ++ ys → IsNegated m us → IsNegated n vs → NoEquation xs → NoEquation ys → (m ≡ n) × (xs ≡ ys)
 negated_one m n us vs xs ys e (inl h) (inl i) a b =
     let s = statement_one (positively m) (positively n) us vs xs ys e h i a b in (ap (λ (l : Literal). l.atom) s.0, s.1)
 negated_one m n us vs xs ys e (inl h) (inr (inner, i, g)) a b =
@@ -130,10 +130,10 @@ negated_one m n us vs xs ys e (inr (inner, h, f)) (inr (core, i, g)) a b =
     let w = same_tail (sym (ap (λ l. l ++ xs) f) ∙ e ∙ ap (λ l. l ++ ys) g) in
     let s =
     statement_one (positively m) (positively n) inner core (right_bracket ∷ xs) (right_bracket ∷ ys)
-    (sym (append_assoc inner (right_bracket ∷ []) xs) ∙ w ∙ append_assoc core (right_bracket ∷ []) ys) h i (right_no_sign xs) (right_no_sign ys) in
+    (sym (append_assoc inner (right_bracket ∷ []) xs) ∙ w ∙ append_assoc core (right_bracket ∷ []) ys) h i (right_no_equation xs) (right_no_equation ys) in
     (ap (λ (l : Literal). l.atom) s.0, same_tail s.1)
 
-pub literal_one : (l k : Literal) (us vs xs ys : List Token) → us ++ xs ≡ vs ++ ys → IsLiteral l us → IsLiteral k vs → NoSign xs → NoSign ys → (l ≡ k) × (xs ≡ ys)
+pub literal_one : (l k : Literal) (us vs xs ys : List Token) → us ++ xs ≡ vs ++ ys → IsLiteral l us → IsLiteral k vs → NoEquation xs → NoEquation ys → (l ≡ k) × (xs ≡ ys)
 literal_one l k us vs xs ys e h i a b = by (plain_or_tilde l.positive l.atom us h) (plain_or_tilde k.positive k.atom vs i) where
   by : IsStatement l us ⊎ ((l.positive ≡ false) × ((ts : List Token) × IsNegated l.atom ts × (us ≡ mark 126 ∷ ts)))
       → IsStatement k vs ⊎ ((k.positive ≡ false) × ((ts : List Token) × IsNegated k.atom ts × (vs ≡ mark 126 ∷ ts))) → (l ≡ k) × (xs ≡ ys)
@@ -151,9 +151,9 @@ literal_bare l ts rest h = by (plain_or_tilde l.positive l.atom ts h) where
   by (inr (p, (us, f, w))) = no_bracket (mark 126) (us ++ rest) (ts ++ rest) (ap (λ x. x ++ rest) w) (marks_apart 126 40 (λ e. absurd (omega (arith, e))))
 
 -- ---- formulas
-literals_follow : (ls : List Literal) (ts rest : List Token) → AreMoreLiterals ls ts → NoLiteral rest → NoSign (ts ++ rest)
-literals_follow [] ts rest e a = subst (λ l. NoSign (l ++ rest)) (sym e) (literal_last rest a)
-literals_follow (l ∷ ls) ts rest (first, others, one, all, e) a = subst (λ z. NoSign (z ++ rest)) (sym e) (bar_no_sign ((first ++ others) ++ rest))
+literals_follow : (ls : List Literal) (ts rest : List Token) → AreMoreLiterals ls ts → NoLiteral rest → NoEquation (ts ++ rest)
+literals_follow [] ts rest e a = subst (λ l. NoEquation (l ++ rest)) (sym e) (literal_last rest a)
+literals_follow (l ∷ ls) ts rest (first, others, one, all, e) a = subst (λ z. NoEquation (z ++ rest)) (sym e) (bar_no_equation ((first ++ others) ++ rest))
 
 literals_one : (ls ks : List Literal) (us vs xs ys : List Token) → us ++ xs ≡ vs ++ ys → AreMoreLiterals ls us → AreMoreLiterals ks vs → NoLiteral xs → NoLiteral ys → ls ≡ ks
 literals_one [] [] us vs xs ys e f g a b = refl
@@ -210,8 +210,8 @@ name_one n m t u e h k =
 pub clause_one : (c d : Clause) (ts us : List Token) → ts ≡ us → IsClause c ts → IsClause d us → c ≡ d
 clause_one c d ts us e (name, formula, extra, is, spelled, notes, f) (other, body, more, is_too, spelled_too, notes_too, g) =
     let w = same_tail (same_tail (sym f ∙ e ∙ g)) in
-    let same = name_one c.name d.name name other (same_head w) is is_too in
-    let role = ap (λ (t : Token). t.text) (same_head (same_tail (same_tail w))) in
+    let same = name_one c.name d.name name other (same_first w) is is_too in
+    let role = ap (λ (t : Token). t.text) (same_first (same_tail (same_tail w))) in
     let rest = same_tail (same_tail (same_tail (same_tail w))) in
     let literals =
     formula_one c.literals d.literals formula body (extra ++ end) (more ++ end) (sym (append_assoc formula extra end) ∙ rest ∙ append_assoc body more end) spelled spelled_too

@@ -7,7 +7,7 @@ use Rattle.si_defs.specs.Clauses.{Name, Clause}
 use Rattle.si_defs.specs.Tokens.{Token, mark, Begins}
 use Rattle.si_defs.specs.Grammar.{AreMoreNames, Selection, all, only, IsSelection, Item, clause_item, include_item, IsItem, comma, right_bracket, full_stop}
 use Rattle.si_defs.specs.Texts.{BeginsWithItem}
-use Rattle.si_defs.proofs.ListLaws.{same_head, same_tail}
+use Rattle.si_defs.proofs.ListLaws.{same_first, same_tail}
 use Rattle.si_lex.specs.FullStops.{EndsAtStop}
 use Rattle.si_lex.proofs.TokenLaws.{begins_prefix, begins_unique}
 use Rattle.si_parse.proofs.GrammarStops.{item_stops, ends_all}
@@ -20,7 +20,7 @@ more_names_one [] (m ∷ ms) ts us e f (u, rest, is, every, g) = let none : [] �
 more_names_one (n ∷ ns) [] ts us e (t, others, is, each, f) g = let none : comma ∷ t ∷ others ≡ [] = sym f ∙ e ∙ g in cc
 more_names_one (n ∷ ns) (m ∷ ms) ts us e (t, others, is, each, f) (u, rest, is_too, every, g) =
     let w = same_tail (sym f ∙ e ∙ g) in
-    let same = name_one n m t u (same_head w) is is_too in
+    let same = name_one n m t u (same_first w) is is_too in
     let after = more_names_one ns ms others rest (same_tail w) each every in
     λ i. same i ∷ after i
 
@@ -35,14 +35,14 @@ selection_one (only (n ∷ ns)) all ts us e (t, others, is, each, f) g =
 selection_one (only (n ∷ ns)) (only []) ts us e f g = absurd g
 selection_one (only (n ∷ ns)) (only (m ∷ ms)) ts us e (t, others, is, each, f) (u, rest, is_too, every, g) =
     let w = same_tail (same_tail (sym f ∙ e ∙ g)) in
-    let same = name_one n m t u (same_head w) is is_too in
+    let same = name_one n m t u (same_first w) is is_too in
     let after = more_names_one ns ms others rest (append_cancel_right others rest (mark 93 ∷ []) (same_tail w)) each every in
     λ i. only (same i ∷ after i)
 
 -- ---- items
 clause_no_include : (c : Clause) (file : Bytes) (s : Selection) (ts us : List Token) → ts ≡ us → IsItem (clause_item c) ts → IsItem (include_item file s) us → ⊥
 clause_no_include c file s ts us e (name, formula, extra, is_name, is_formula, is_extra, f) (names, selection, g) =
-    let texts : codes "cnf" ≡ codes "include" = ap (λ (t : Token). t.text) (same_head (sym f ∙ e ∙ g)) in
+    let texts : codes "cnf" ≡ codes "include" = ap (λ (t : Token). t.text) (same_first (sym f ∙ e ∙ g)) in
     absurd (omega (arith, ap length texts))
 
 item_one : (one other : Item) (ts us : List Token) → ts ≡ us → IsItem one ts → IsItem other us → one ≡ other
@@ -51,7 +51,7 @@ item_one (clause_item c) (include_item file s) ts us e h k = absurd (clause_no_i
 item_one (include_item file s) (clause_item c) ts us e h k = absurd (clause_no_include c file s us ts (sym e) k h)
 item_one (include_item file s) (include_item name r) ts us e (names, selection, f) (others, selection_too, g) =
     let w = same_tail (same_tail (sym f ∙ e ∙ g)) in
-    let same : file ≡ name = ap (λ (t : Token). t.text) (same_head w) in
+    let same : file ≡ name = ap (λ (t : Token). t.text) (same_first w) in
     let selects = selection_one s r names others (append_cancel_right names others (right_bracket ∷ full_stop ∷ []) (same_tail w)) selection selection_too in
     λ i. include_item (same i) (selects i)
 

@@ -16,7 +16,7 @@ use Rattle.si_steps.specs.Loads.{owed_for}
 use Rattle.si_steps.proofs.FetchLaws.{barred_no_ask}
 use Rattle.si_lex.proofs.BlankLaws.{place_unique}
 use Rattle.si_parse.proofs.GrammarStops.{no_item_in_blanks}
-use Rattle.si_laws.specs.OneReply.{IsConsistent, TellsNoFailure}
+use Rattle.si_laws.specs.OneReply.{IsConsistent, ReportsNoFailure}
 use Rattle.si_laws.proofs.ItemLaws.{one_item, item_is}
 use Rattle.si_laws.proofs.RefusalLaws.{accepts_or_refuses, one_refusal}
 use Rattle.si_laws.proofs.StateLaws.{consistent_more}
@@ -67,7 +67,7 @@ module _ (bounds : Bounds) (opened : List Bytes) (made : ℕ) (file : Bytes) whe
 
 -- the reading ends with no failure of the library
 abbrev Ends : Option Fault → Type 0
-Ends fault = TellsNoFailure (owed_for 0 fault)
+Ends fault = ReportsNoFailure (owed_for 0 fault)
 
 ends_well : Ends None
 ends_well = refl

@@ -9,7 +9,7 @@ use Rattle.si_steps.specs.Replies.{Reply}
 use Rattle.si_steps.specs.Steps.{Step, right, memory_at_once, memory_behind}
 use Rattle.si_steps.specs.FileWords.{RightWord, nameless, named, WordStep, right_word, no_memory}
 use Rattle.si_steps.specs.Runs.{Request, a_word, a_line, Acts, Run}
-use Rattle.si_laws.specs.OneReply.{IsConsistent, OneRightWord, TellsNoFailure, RightlyActs, RightRun, AreAlikeAt, AreAllAlike, OneRightRun}
+use Rattle.si_laws.specs.OneReply.{IsConsistent, OneRightWord, ReportsNoFailure, RightlyActs, RightRun, AreAlikeAt, AreAllAlike, OneRightRun}
 use Rattle.si_laws.proofs.CommandLaws.{one_meaning}
 use Rattle.si_laws.proofs.OutcomeLaws.{step_stays, load_stays, one_load}
 use Rattle.si_laws.proofs.StateLaws.{consistent_none}
@@ -54,7 +54,7 @@ right_act_stays setting files state (a_line line) reply owed new is acts = step_
 
 one_act : (setting : Setting) (files : Files) (state : State) (request : Request) (reply other : Reply) (owed due : Owed) (new behind : State) → IsConsistent state.clauses
     → RightlyActs setting files state request reply owed new → RightlyActs setting files state request other due behind
-    → TellsNoFailure owed → TellsNoFailure due → AreAlikeAt request reply other × (new ≡ behind)
+    → ReportsNoFailure owed → ReportsNoFailure due → AreAlikeAt request reply other × (new ≡ behind)
 one_act setting files state (a_word word) reply other owed due new behind is h k a b = let same = one_word setting files state word is reply other owed due new behind h k a b in (same.0, same.2)
 one_act setting files state (a_line line) reply other owed due new behind is h k a b = let same = one_step setting files state line is (one_meaning line) reply other owed due new behind h k a b in (same.0, same.2)
 

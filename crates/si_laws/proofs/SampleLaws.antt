@@ -6,7 +6,7 @@ use Rattle.si_defs.specs.Clauses.{Clause, Pattern, literal_pattern, term_pattern
 use Rattle.si_defs.specs.Entries.{Placed, pattern_entry, state_entries}
 use Rattle.si_defs.specs.Grammar.{clause_item}
 use Rattle.si_defs.specs.declared.Relation.TheVariants.{Unifiable}
-use Rattle.si_defs.proofs.ListLaws.{same_head, same_tail}
+use Rattle.si_defs.proofs.ListLaws.{same_first, same_tail}
 use Rattle.si_state.specs.States.{State, Rules}
 use Rattle.si_state.specs.Acceptance.{Refusal, Refuses}
 use Rattle.si_state.specs.Answers.{IsAnswer}
@@ -59,20 +59,20 @@ module _ (rules : Rules) where
       → AreAccepted rules state front → AreAccepted rules state begin → Refuses rules (state ++ front) c why → Refuses rules (state ++ begin) d because
       → (c ≡ d) × (why ≡ because)
   first_same state [] [] back end c d why because is e h k r q =
-      let same = same_head e in (
+      let same = same_first e in (
         same,
         one_refusal rules state c is why because (subst (λ s. Refuses rules s c why) (append-nil state) r)
             (subst (λ x. Refuses rules state x because) (sym same) (subst (λ s. Refuses rules s d because) (append-nil state) q)),
       )
   first_same state [] (y ∷ begin) back end c d why because is e h k r q =
-      let same = same_head e in
+      let same = same_first e in
       absurd (accepts_or_refuses rules state y (state ++ y ∷ []) why k.0 (subst (λ x. Refuses rules state x why) same (subst (λ s. Refuses rules s c why) (append-nil state) r)))
   first_same state (x ∷ front) [] back end c d why because is e h k r q =
-      let same = same_head e in
+      let same = same_first e in
       absurd (accepts_or_refuses rules state x (state ++ x ∷ []) because h.0
       (subst (λ z. Refuses rules state z because) (sym same) (subst (λ s. Refuses rules s d because) (append-nil state) q)))
   first_same state (x ∷ front) (y ∷ begin) back end c d why because is e h k r q =
-      let same = same_head e in
+      let same = same_first e in
       first_same (state ++ x ∷ []) front begin back end c d why because (consistent_more rules state x (state ++ x ∷ []) is h.0)
       (same_tail e) h.1 (subst (λ z. AreAccepted rules (state ++ z ∷ []) begin) (sym same) k.1)
       (subst (λ s. Refuses rules s c why) (sym (append_assoc state (x ∷ []) front)) r)

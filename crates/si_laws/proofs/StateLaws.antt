@@ -9,7 +9,7 @@ use Rattle.si_state.specs.States.{Rules}
 use Rattle.si_state.specs.Acceptance.{names, IsTaken, HasDistinctNames, Clashes, Agrees, AllAgree, IsFirstClash, Accepts, Removes}
 use Rattle.si_state.specs.Signatures.{CountsSymbols}
 use Rattle.si_defs.proofs.SymbolLaws.{side_is, side_self}
-use Rattle.si_defs.proofs.ListLaws.{among_front, among_back, among_parts, all_at, same_head, same_tail}
+use Rattle.si_defs.proofs.ListLaws.{among_front, among_back, among_parts, all_at, same_first, same_tail}
 use Rattle.si_sign.proofs.TakeLaws.{agree_append, agree_split}
 use Rattle.si_sign.proofs.StoreLaws.{names_append, names_more, names_less, symbols_more, symbols_less}
 use Rattle.si_laws.specs.OneReply.{IsConsistent}
@@ -54,11 +54,11 @@ front_agrees known y f k agree e h c = all_at (λ r. Clashes y r → ⊥) known 
 
 same_front : (known xs ys : List Symbol) (f g k l : Symbol) (us vs : List Symbol) → xs ++ f ∷ us ≡ ys ++ g ∷ vs → AllAgree known xs → AllAgree known ys
     → IsAmong (known ++ xs) k → Clashes f k → IsAmong (known ++ ys) l → Clashes g l → (xs ≡ ys) × (f ≡ g)
-same_front known [] [] f g k l us vs e a b h c i d = (refl, same_head e)
-same_front known [] (y ∷ ys) f g k l us vs e a b h c i d = absurd (front_agrees known y f k b.0 (same_head e) h c)
-same_front known (x ∷ xs) [] f g k l us vs e a b h c i d = absurd (front_agrees known x g l a.0 (sym (same_head e)) i d)
+same_front known [] [] f g k l us vs e a b h c i d = (refl, same_first e)
+same_front known [] (y ∷ ys) f g k l us vs e a b h c i d = absurd (front_agrees known y f k b.0 (same_first e) h c)
+same_front known (x ∷ xs) [] f g k l us vs e a b h c i d = absurd (front_agrees known x g l a.0 (sym (same_first e)) i d)
 same_front known (x ∷ xs) (y ∷ ys) f g k l us vs e a b h c i d =
-    let same = same_head e in
+    let same = same_first e in
     let rest =
     same_front (known ++ x ∷ []) xs ys f g k l us vs (same_tail e) a.1
     (subst (λ z. AllAgree (known ++ z ∷ []) ys) (sym same) b.1)
@@ -66,7 +66,7 @@ same_front known (x ∷ xs) (y ∷ ys) f g k l us vs e a b h c i d =
     (subst (λ z. IsAmong z l) (ap (λ z. known ++ z ∷ ys) (sym same) ∙ sym (append_assoc known (x ∷ []) ys)) i) d in
     ((λ n. same n ∷ rest.0 n), rest.1)
 
--- what clashes first is one symbol at one place, and it clashes with one other
+-- what clashes first is one symbol at one occurrence, and it clashes with one other
 pub same_clash : (known own : List Symbol) (m n : ℕ) (f g k l : Symbol) → AllAgree [] known → IsFirstClash known own m f k → IsFirstClash known own n g l
     → (m ≡ n) × (f ≡ g) × (k ≡ l)
 same_clash known own m n f g k l agree one other =
@@ -86,16 +86,16 @@ name_among bs c ds = subst (λ l. IsAmong l c.name) (sym (names_append bs (c ∷
 
 same_gone : (bs cs : List Clause) (r s : Clause) (ds es : List Clause) → bs ++ r ∷ ds ≡ cs ++ s ∷ es → HasDistinctNames (bs ++ r ∷ ds) → r.name ≡ s.name
     → (r ≡ s) × (bs ++ ds ≡ cs ++ es)
-same_gone [] [] r s ds es e d n = (same_head e, same_tail e)
+same_gone [] [] r s ds es e d n = (same_first e, same_tail e)
 same_gone [] (c ∷ cs) r s ds es e d n =
     let rest = same_tail e in
     absurd (d.0 (subst (λ l. IsAmong (names l) r.name) (sym rest) (subst (IsAmong (names (cs ++ s ∷ es))) (sym n) (name_among cs s es))))
 same_gone (b ∷ bs) [] r s ds es e d n =
-    let same = same_head e in
+    let same = same_first e in
     absurd (d.0 (subst (IsAmong (names (bs ++ r ∷ ds))) (n ∙ ap (λ (c : Clause). c.name) (sym same)) (name_among bs r ds)))
 same_gone (b ∷ bs) (c ∷ cs) r s ds es e d n =
     let rest = same_gone bs cs r s ds es (same_tail e) d.1 n in
-    (rest.0, (λ i. same_head e i ∷ rest.1 i))
+    (rest.0, (λ i. same_first e i ∷ rest.1 i))
 
 pub same_removal : (state : List Clause) (name : Name) (r s : Clause) (new behind : List Clause) → HasDistinctNames state → Removes state name r new → Removes state name s behind
     → (r ≡ s) × (new ≡ behind)

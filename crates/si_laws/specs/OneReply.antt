@@ -19,9 +19,9 @@ pub record IsConsistent (clauses : List Clause) : Type 0 where
   pub distinct : HasDistinctNames clauses
   pub agree : AllAgree [] (state_symbols clauses)
 
--- the reply tells no failure of the library
-abbrev pub TellsNoFailure : Owed → Type 0
-TellsNoFailure owed = owed.failures ≡ 0
+-- the reply reports no failure of the library
+abbrev pub ReportsNoFailure : Owed → Type 0
+ReportsNoFailure owed = owed.failures ≡ 0
 
 -- ---- commands
 -- Two replies to the command are alike: they are the same, but that numbers of nodes are free.
@@ -42,13 +42,13 @@ HasOneOutcome setting command state =
     → Performs setting command state reply new → Performs setting command state other behind
     → AreAlike command reply other × (new ≡ behind)
 
--- two right outcomes of a load of the file are the same, where none tells a failure
+-- two right outcomes of a load of the file are the same, where none reports a failure
 abbrev pub LoadsToOneOutcome : Setting → Files → Bytes → State → Type 0
 LoadsToOneOutcome setting files file state =
     (reply other : Reply) (owed due : Owed) (new behind : State)
     → PerformsLoad setting (Some files) file state reply owed new
     → PerformsLoad setting (Some files) file state other due behind
-    → TellsNoFailure owed → TellsNoFailure due → (reply ≡ other) × (owed ≡ due) × (new ≡ behind)
+    → ReportsNoFailure owed → ReportsNoFailure due → (reply ≡ other) × (owed ≡ due) × (new ≡ behind)
 
 -- the line is one command at most
 abbrev pub HasOneMeaning : Bytes → Type 0
@@ -67,7 +67,7 @@ OneRightStep setting files state line =
     (reply other : Reply) (owed due : Owed) (new behind : State)
     → RightStep setting (Some files) state line reply owed new
     → RightStep setting (Some files) state line other due behind
-    → TellsNoFailure owed → TellsNoFailure due
+    → ReportsNoFailure owed → ReportsNoFailure due
     → AreAlikeTo line reply other × (owed ≡ due) × (new ≡ behind)
 
 -- the line loads no file
@@ -89,13 +89,13 @@ StaysConsistent setting told state line =
     → RightStep setting told state line reply owed new → IsConsistent new.clauses
 
 -- ---- sessions
--- two right steps over the word are the same, where none tells a failure
+-- two right steps over the word are the same, where none reports a failure
 abbrev pub OneRightWord : Setting → Files → State → Bytes → Type 0
 OneRightWord setting files state word =
     (reply other : Reply) (owed due : Owed) (new behind : State)
     → RightWord setting (Some files) state word reply owed new
     → RightWord setting (Some files) state word other due behind
-    → TellsNoFailure owed → TellsNoFailure due → (reply ≡ other) × (owed ≡ due) × (new ≡ behind)
+    → ReportsNoFailure owed → ReportsNoFailure due → (reply ≡ other) × (owed ≡ due) × (new ≡ behind)
 
 -- what is rightly done at a request
 abbrev pub RightlyActs : Setting → Files → State → Request → Reply → Owed → State → Type 0
@@ -104,13 +104,13 @@ RightlyActs setting files state (a_word word) reply owed new =
 RightlyActs setting files state (a_line line) reply owed new =
     RightStep setting (Some files) state line reply owed new
 
--- From this state on the requests have these right replies, of which none tells a failure, and the
--- new state stands after them.
+-- From this state on the requests have these right replies, of which none reports a failure, and
+-- the new state stands after them.
 abbrev pub RightRun : Setting → Files → State → List Request → List Reply → State → Type 0
 RightRun setting files state [] replies new = (replies ≡ []) × (new ≡ state)
 RightRun setting files state (request ∷ requests) replies new =
     (reply : Reply) × (owed : Owed) × (next : State) × (others : List Reply)
-    × RightlyActs setting files state request reply owed next × TellsNoFailure owed
+    × RightlyActs setting files state request reply owed next × ReportsNoFailure owed
     × RightRun setting files next requests others new × (replies ≡ reply ∷ others)
 
 -- two replies to the request are alike

@@ -17,21 +17,22 @@ ghost use Rattle.si_steps.specs.Steps.{CountsStanding};
 ghost use Rattle.si_steps.specs.Runs.{Request, Run};
 
 /// Where each symbol is used in one way and names are distinct, a command that is no load has at
-/// most one right reply, but that numbers of nodes are free, and one right state after it. They
-/// depend on the limits, the rules of acceptance, the command and the state alone.
+/// most one right reply, but that numbers of nodes are free, and at most one right state after it.
+/// They depend on the limits, the rules of acceptance, the command and the state alone.
 pub fn commands_have_one_outcome()
     ensures { (setting : Setting) (command : Command) (state : State)
         → IsConsistent state.clauses → HasOneOutcome setting command state }
 {}
 
-/// So has a load, except that the library may fail: the files decide too, where it tells them.
+/// So has a load in such a state, except that the library may fail: the files that it tells decide
+/// too.
 pub fn loads_have_one_outcome()
     ensures { (setting : Setting) (files : Files) (file : Bytes) (state : State)
         → IsConsistent state.clauses → LoadsToOneOutcome setting files file state }
 {}
 
-/// Of some entries one number stands in a relation to a pattern, and the answer to the pattern has
-/// so many hits.
+/// At most one number is right for how many of some entries stand in a relation to a pattern, and
+/// each answer to the pattern has so many hits.
 pub fn answers_have_one_count()
     ensures count { (relation : Relation) (pattern : Pattern) (entries : List (Clause × Placed))
         (count other : ℕ) → CountsStanding relation pattern entries count
@@ -41,12 +42,12 @@ pub fn answers_have_one_count()
         → IsAnswer relation pattern entries hits → count ≡ length hits }
 {}
 
-/// A line means one command at most.
+/// A line means at most one command.
 pub fn lines_have_one_meaning()
     ensures { (line : Bytes) → HasOneMeaning line }
 {}
 
-/// A line has at most one right step in such a state, except that the library may fail, and that
+/// In such a state a line has at most one right step, except that the library may fail, and that
 /// numbers of nodes are free. It depends on the limits, the rules of acceptance, the line, the
 /// state and the files alone: a clause that is gone leaves no trace. The files decide nothing where
 /// the line is no load, whether they are told or not.
@@ -63,7 +64,8 @@ pub fn right_steps_stay_consistent()
         → StaysConsistent setting told state line }
 {}
 
-/// Each state of a session is such, also where memory runs out or the library fails.
+/// The state after each run from the empty one is such, also where memory ran out or the library
+/// failed.
 pub fn runs_stay_consistent()
     ensures { (setting : Setting) (told : Option Files) (strict : Bool) (requests : List Request)
         (output : Bytes) (owed : Owed) (new : State)
@@ -71,7 +73,7 @@ pub fn runs_stay_consistent()
         → IsConsistent new.clauses }
 {}
 
-/// A word that names a file has at most one right step in such a state, except that the library may
+/// In such a state a word that names a file has at most one right step, except that the library may
 /// fail.
 pub fn words_have_one_right_step()
     ensures { (setting : Setting) (files : Files) (state : State) (word : Bytes)

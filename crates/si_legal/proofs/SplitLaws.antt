@@ -210,7 +210,7 @@ applied_common f side (s ∷ ss) (terms.more c cs) e =
     λ i. (s.left, both.0 i) ∷ rest i
 
 -- ---- which pairs a rest keeps
-occurs : (ns : List ℕ) (n : ℕ) → IsAmong ns n → list_any (λ m. m == n) ns ≡ true
+pub occurs : (ns : List ℕ) (n : ℕ) → IsAmong ns n → list_any (λ m. m == n) ns ≡ true
 occurs [] n a = absurd a
 occurs (m ∷ ns) n (inl e) = ap (λ b. b || list_any (λ k. k == n) ns) (eq-eqb m n e)
 occurs (m ∷ ns) n (inr a) = ap (λ b. (m == n) || b) (occurs ns n a) ∙ or_true (m == n) where
@@ -218,7 +218,7 @@ occurs (m ∷ ns) n (inr a) = ap (λ b. (m == n) || b) (occurs ns n a) ∙ or_tr
   or_true true = refl
   or_true false = refl
 
-occurs_not : (ns : List ℕ) (n : ℕ) → (IsAmong ns n → ⊥) → list_any (λ m. m == n) ns ≡ false
+pub occurs_not : (ns : List ℕ) (n : ℕ) → (IsAmong ns n → ⊥) → list_any (λ m. m == n) ns ≡ false
 occurs_not [] n h = refl
 occurs_not (m ∷ ns) n h = elim (eqb_tells m n) as (λ _. list_any (λ k. k == n) (m ∷ ns) ≡ false) [
   | inl e ↦ absurd (h (inl e.1))

@@ -1,9 +1,9 @@
 -- Blanks are found in one way only, so that the place after the longest of them is one.
 use Rattle.std.proofs.Common.{◌≡◌, ◌≤◌, ◌<◌, Bool, true, false, cond, ◌&&◌, ◌||◌, ◌==◌, List, [], ◌∷◌, ◌++◌, length, drop, refl, ap, sym, ◌∙◌, subst, arith, append_assoc, length-append}
-use Rattle.std.specs.List.{list_any, AllByRecursion}
+use Rattle.std.specs.List.{list_any, AllByRecursion, concat}
 use Rattle.std.proofs.lemmas.Bool.{or_parts, false≢true}
 use Rattle.si_defs.specs.Bytes.{Bytes, is_white}
-use Rattle.si_defs.specs.Tokens.{IsBlank, white, line_comment, block_comment, joined, Skips, IsLineComment, has_close, begins_with}
+use Rattle.si_defs.specs.Tokens.{IsBlank, white, line_comment, block_comment, Skips, IsLineComment, has_close, begins_with}
 use Rattle.si_defs.specs.Texts.{IsPlace}
 use Rattle.si_defs.proofs.TokenLaws.{skips_nothing}
 use Rattle.si_lex.specs.Blanks.{NoBlankAt}
@@ -56,38 +56,38 @@ pub skips_first : (bytes blank rest place : Bytes) → IsBlank blank → bytes �
 skips_first bytes blank rest place b e s = record {
   blanks = blank ∷ s.blanks;
   each = (b, s.each);
-  whole = e ∙ ap (λ r. blank ++ r) s.whole ∙ sym (append_assoc blank (joined s.blanks) place);
+  whole = e ∙ ap (λ r. blank ++ r) s.whole ∙ sym (append_assoc blank (concat s.blanks) place);
 }
 
 pub skips_more : (bytes middle place : Bytes) → Skips bytes middle → Skips middle place → Skips bytes place
 skips_more bytes middle place s t = walk s.blanks s.each bytes s.whole where
-  walk : (blanks : List Bytes) → AllByRecursion IsBlank blanks → (from : Bytes) → from ≡ joined blanks ++ middle → Skips from place
+  walk : (blanks : List Bytes) → AllByRecursion IsBlank blanks → (from : Bytes) → from ≡ concat blanks ++ middle → Skips from place
   walk [] each from e = subst (λ b. Skips b place) (sym e) t
   walk (b ∷ bs) each from e =
-      skips_first from b (joined bs ++ middle) place each.0 (e ∙ append_assoc b (joined bs) middle) (walk bs each.1 (joined bs ++ middle) refl)
+      skips_first from b (concat bs ++ middle) place each.0 (e ∙ append_assoc b (concat bs) middle) (walk bs each.1 (concat bs ++ middle) refl)
 
 -- where no blank stands none is skipped
 pub skips_none : (bytes place : Bytes) → NoBlankAt bytes → Skips bytes place → place ≡ bytes
 skips_none bytes place n s = at s.blanks s.each s.whole where
-  at : (blanks : List Bytes) → AllByRecursion IsBlank blanks → bytes ≡ joined blanks ++ place → place ≡ bytes
+  at : (blanks : List Bytes) → AllByRecursion IsBlank blanks → bytes ≡ concat blanks ++ place → place ≡ bytes
   at [] each e = sym e
-  at (b ∷ bs) each e = absurd (n b (joined bs ++ place) each.0 (e ∙ append_assoc b (joined bs) place))
+  at (b ∷ bs) each e = absurd (n b (concat bs ++ place) each.0 (e ∙ append_assoc b (concat bs) place))
 
 -- blanks that end where no blank stands are the longest: after any others the rest of them stands
 pub skips_further : (bytes place other : Bytes) → Skips bytes place → NoBlankAt place → Skips bytes other → Skips other place
 skips_further bytes place other s n t = walk s.blanks s.each t.blanks t.each bytes s.whole t.whole where
   walk : (ps : List Bytes) → AllByRecursion IsBlank ps → (qs : List Bytes) → AllByRecursion IsBlank qs
-      → (from : Bytes) → from ≡ joined ps ++ place → from ≡ joined qs ++ other → Skips other place
+      → (from : Bytes) → from ≡ concat ps ++ place → from ≡ concat qs ++ other → Skips other place
   walk ps p [] q from e f = record { blanks = ps; each = p; whole = sym f ∙ e }
-  walk [] p (b ∷ qs) q from e f = absurd (n b (joined qs ++ other) q.0 (sym e ∙ f ∙ append_assoc b (joined qs) other))
+  walk [] p (b ∷ qs) q from e f = absurd (n b (concat qs ++ other) q.0 (sym e ∙ f ∙ append_assoc b (concat qs) other))
   walk (a ∷ ps) p (b ∷ qs) q from e f =
-      let g = blank_unique a b (joined ps ++ place) (joined qs ++ other) p.0 q.0
-      (sym (append_assoc a (joined ps) place) ∙ sym e ∙ f ∙ append_assoc b (joined qs) other) in
-      walk ps p.1 qs q.1 (joined ps ++ place) refl g
+      let g = blank_unique a b (concat ps ++ place) (concat qs ++ other) p.0 q.0
+      (sym (append_assoc a (concat ps) place) ∙ sym e ∙ f ∙ append_assoc b (concat qs) other) in
+      walk ps p.1 qs q.1 (concat ps ++ place) refl g
 
 -- skipping leaves no more bytes than there were
 pub skips_shorter : (bytes place : Bytes) → Skips bytes place → length place ≤ length bytes
-skips_shorter bytes place s = let e = ap length s.whole ∙ length-append (joined s.blanks) place in omega arith
+skips_shorter bytes place s = let e = ap length s.whole ∙ length-append (concat s.blanks) place in omega arith
 
 -- so they end at the place after the longest blanks
 pub place_where : (bytes place : Bytes) → Skips bytes place → NoBlankAt place → IsPlace bytes place
@@ -118,9 +118,9 @@ place_unique bytes place other p q =
 -- nothing stands after the end
 pub skips_nil : (place : Bytes) → Skips [] place → place ≡ []
 skips_nil place s = at_end s.blanks place s.whole where
-  at_end : (blanks : List Bytes) (p : Bytes) → [] ≡ joined blanks ++ p → p ≡ []
+  at_end : (blanks : List Bytes) (p : Bytes) → [] ≡ concat blanks ++ p → p ≡ []
   at_end blanks [] e = refl
-  at_end blanks (c ∷ cs) e = absurd (omega (arith, ap length e, length-append (joined blanks) (c ∷ cs)))
+  at_end blanks (c ∷ cs) e = absurd (omega (arith, ap length e, length-append (concat blanks) (c ∷ cs)))
 
 -- a line comment that no line feed closes is no blank
 pub line_open : (bytes : Bytes) → IsLineComment bytes → NoBlankAt bytes

@@ -14,26 +14,15 @@ use Rattle.si_legal.specs.Bindings.{indicator, IsIndicator}
 use Rattle.si_legal.specs.Generalizations.{same_head}
 use Rattle.si_legal.specs.Pieces.{Piece, Pieces, kept, alike, apart, over, then, piece, pieces}
 use Rattle.si_unify.proofs.Reading.{same_term}
+use Rattle.si_unify.proofs.Rows.{cells-join, sound-join, count-join}
 use Rattle.si_legal.proofs.Splitting.{symbol_is}
 use Rattle.si_mscg.specs.Generalising.{same_head_cell, spanless, draft_of, draft_of_all}
 use Rattle.si_mscg.specs.Walking.{State, cell_pairs, with_piece, MayEnd, BeginsWithTerm}
 
 -- ---- rows of terms, one after the other
-pub cells-join : (ts us : Terms) → cells_of_all (join ts us) ≡ cells_of_all ts ++ cells_of_all us
-cells-join terms.none us = refl
-cells-join (terms.more t ts) us = ap (λ l. cells_of t ++ l) (cells-join ts us) ∙ sym (append_assoc (cells_of t) (cells_of_all ts) (cells_of_all us))
-
 pub draft-join : (ts us : Terms) → draft_of_all (join ts us) ≡ draft_of_all ts ++ draft_of_all us
 draft-join terms.none us = refl
 draft-join (terms.more t ts) us = ap (λ l. draft_of t ++ l) (draft-join ts us) ∙ sym (append_assoc (draft_of t) (draft_of_all ts) (draft_of_all us))
-
-pub sound-join : (ts us : Terms) → AreSound ts → AreSound us → AreSound (join ts us)
-sound-join terms.none us p q = q
-sound-join (terms.more t ts) us p q = (p.0, sound-join ts us p.1 q)
-
-pub count-join : (ts us : Terms) → terms.count (join ts us) ≡ terms.count ts + terms.count us
-count-join terms.none us = omega arith
-count-join (terms.more t ts) us = omega (arith, count-join ts us)
 
 -- the pieces of two rows in turn
 abbrev pub both : Pieces → Pieces → Pieces

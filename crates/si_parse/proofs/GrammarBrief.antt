@@ -15,7 +15,7 @@ use Rattle.si_defs.specs.declared.SymKind.{SymKind}
 use Rattle.si_defs.specs.declared.SymKind.TheVariants.{Word, Dollar, Number, Distinct, Equal}
 use Rattle.si_defs.specs.declared.TokenKind.{TokenKind}
 use Rattle.si_defs.specs.declared.TokenKind.TheVariants as token
-use Rattle.si_defs.proofs.ListLaws.{same_head, same_tail}
+use Rattle.si_defs.proofs.ListLaws.{same_first, same_tail}
 use Rattle.si_lex.specs.Annotations.{IsComma, HasNoComma, BeginsClause, LeavesOut}
 use Rattle.si_lex.specs.FullStops.{HasNoStop, depth_from}
 use Rattle.si_lex.specs.Lexemes.{token_of, tokens_of}
@@ -233,26 +233,26 @@ stop_no_bracket : full_stop ≡ right_bracket → ⊥
 stop_no_bracket e = marks_apart 46 41 (λ f. absurd (omega (arith, f))) e
 
 no_stop_closes : (ys rest : List Token) → Closes ys → full_stop ∷ rest ≡ ys → ⊥
-no_stop_closes ys rest (inl (r, y)) e = stop_no_comma (same_head (e ∙ y))
-no_stop_closes ys rest (inr (r, y)) e = stop_no_bracket (same_head (e ∙ y))
+no_stop_closes ys rest (inl (r, y)) e = stop_no_comma (same_first (e ∙ y))
+no_stop_closes ys rest (inr (r, y)) e = stop_no_bracket (same_first (e ∙ y))
 
 -- A formula ends where the first comma with one bracket open stands, or the bracket that closes the
 -- clause before its full stop.
 same_end : (d : ℕ) (formula inner xs ys : List Token) → IsInside d formula → depth_from d formula ≡ 1 → HasNoComma zero d inner → HasNoStop d inner → depth_from d inner ≡ 1
     → GoesOn xs → Closes ys → formula ++ xs ≡ inner ++ ys → (formula ≡ inner) × (xs ≡ ys)
 same_end d [] [] xs ys i a n s b x y e = (refl, e)
-same_end d [] (t ∷ inner) xs ys i a n s b (inl (r, x)) y e = absurd (n.0 (a, sym (same_head (sym x ∙ e))))
+same_end d [] (t ∷ inner) xs ys i a n s b (inl (r, x)) y e = absurd (n.0 (a, sym (same_first (sym x ∙ e))))
 same_end d [] (t ∷ inner) xs ys i a n s b (inr (r, x)) y e = absurd (by inner s.1 (same_tail (sym x ∙ e))) where
   closed : open_behind d t ≡ 0
-  closed = none_open d t a (sym (same_head (sym x ∙ e)))
+  closed = none_open d t a (sym (same_first (sym x ∙ e)))
 
   by : (us : List Token) → HasNoStop (open_behind d t) us → full_stop ∷ r ≡ us ++ ys → ⊥
   by [] h f = no_stop_closes ys r y f
-  by (u ∷ us) h f = h.0 (closed, sym (same_head f))
-same_end d (t ∷ formula) [] xs ys i a n s b x (inl (r, y)) e = absurd (i.0 (b, same_head (e ∙ y)))
-same_end d (t ∷ formula) [] xs ys i a n s b x (inr (r, y)) e = absurd (omega (arith, i.1.0, none_open d t b (same_head (e ∙ y))))
+  by (u ∷ us) h f = h.0 (closed, sym (same_first f))
+same_end d (t ∷ formula) [] xs ys i a n s b x (inl (r, y)) e = absurd (i.0 (b, same_first (e ∙ y)))
+same_end d (t ∷ formula) [] xs ys i a n s b x (inr (r, y)) e = absurd (omega (arith, i.1.0, none_open d t b (same_first (e ∙ y))))
 same_end d (t ∷ formula) (u ∷ inner) xs ys i a n s b x y e =
-    let same : u ≡ t = sym (same_head e) in
+    let same : u ≡ t = sym (same_first e) in
     let h =
     same_end (open_behind d t) formula inner xs ys i.1.1 a (subst (λ v. HasNoComma zero (open_behind d v) inner) same n.1) (subst (λ v. HasNoStop (open_behind d v) inner) same s.1)
     (subst (λ v. depth_from (open_behind d v) inner ≡ 1) same b) x y (same_tail e) in
@@ -265,7 +265,7 @@ front_split [] tail front rest e l = (front, refl, e)
 front_split (x ∷ xs) tail [] rest e l = absurd (omega (arith, l))
 front_split (x ∷ xs) tail (f ∷ front) rest e l =
     let h = front_split xs tail front rest (same_tail e) (omega (arith, l)) in
-    (h.0, ap (λ y. y ∷ front) (sym (same_head e)) ∙ ap (λ y. x ∷ y) h.1, h.2)
+    (h.0, ap (λ y. y ∷ front) (sym (same_first e)) ∙ ap (λ y. x ∷ y) h.1, h.2)
 
 abbrev heading : Token → Bytes → List Token
 heading name role = lower (codes "cnf") ∷ left_bracket ∷ name ∷ comma ∷ lower role ∷ comma ∷ []
@@ -334,7 +334,7 @@ module _ (ts left : List Token) (h : LeavesOut ts left) where
 
     by : (extra : List Token) → IsExtra extra → extra ++ right_bracket ∷ full_stop ∷ rest ≡ comma ∷ (h.notes ++ right_bracket ∷ h.rest)
         → (front : List Token) × (left ≡ front ++ rest) × IsClause c front
-    by [] is f = absurd (right_no_comma (same_head f))
+    by [] is f = absurd (right_no_comma (same_first f))
     by (x ∷ ns) is f = found (same_notes h.notes (full_stop ∷ rest) h.rest ns is.2 h.balanced (same_tail f))
 
   -- and a clause at the front of the others stands with them at the front of all
@@ -370,7 +370,7 @@ module _ (ts left : List Token) (h : LeavesOut ts left) where
 
     by : (extra : List Token) → IsExtra extra → extra ++ right_bracket ∷ full_stop ∷ rest ≡ right_bracket ∷ h.rest → (front : List Token) × (ts ≡ front ++ rest) × IsClause c front
     by [] is f = found (same_tail f)
-    by (x ∷ ns) is f = absurd (right_no_comma (sym (same_head f) ∙ is.0))
+    by (x ∷ ns) is f = absurd (right_no_comma (sym (same_first f) ∙ is.0))
 
   -- so reading the others is reading all
   pub brief_clause : {result : Option (Clause × List Token)} → ReadsTokens IsClause Anything left result → ReadsTokens IsClause Anything ts result

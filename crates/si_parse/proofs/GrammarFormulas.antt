@@ -4,7 +4,7 @@ use Rattle.si_defs.specs.Clauses.{Term, Literal}
 use Rattle.si_defs.specs.Tokens.{Token, mark}
 use Rattle.si_defs.specs.Grammar.{IsSignedAtom, IsLiteral, AreMoreLiterals, IsDisjunction, IsFormula, left_bracket, right_bracket}
 use Rattle.si_defs.proofs.ListLaws.{same_tail}
-use Rattle.si_parse.specs.Parsing.{ReadsTokens, Anything, NoBracket, NoSign, NoLiteral}
+use Rattle.si_parse.specs.Parsing.{ReadsTokens, Anything, NoBracket, NoEquation, NoLiteral}
 use Rattle.si_parse.specs.GrammarRules.{AreMore, AreLiterals, AreClosing, positively}
 use Rattle.si_parse.proofs.ParseSteps.{parses_none, parses_some, parses_uses, parses_one, parses_never}
 use Rattle.si_parse.proofs.GrammarTerms.{marks_apart, mark_unequal, no_bracket, opens}
@@ -12,13 +12,13 @@ use Rattle.si_parse.proofs.GrammarLiterals.{statement_first, mark_no_first, nega
 
 -- ---- literals with bars between them
 -- what may follow the last literal may follow a literal
-pub literal_last : (rest : List Token) → NoLiteral rest → NoSign rest
+pub literal_last : (rest : List Token) → NoLiteral rest → NoEquation rest
 literal_last [] h = tt
 literal_last (t ∷ ts) h = (h.0, (h.1.0, (h.1.1.0, tt)))
 
 -- a bar is no sign
-pub bar_no_sign : (rest : List Token) → NoSign (mark 124 ∷ rest)
-bar_no_sign rest = (marks_apart 124 40 (λ e. absurd (omega (arith, e))), (marks_apart 124 61 (λ e. absurd (omega (arith, e))), (mark_unequal 124, tt)))
+pub bar_no_equation : (rest : List Token) → NoEquation (mark 124 ∷ rest)
+bar_no_equation rest = (marks_apart 124 40 (λ e. absurd (omega (arith, e))), (marks_apart 124 61 (λ e. absurd (omega (arith, e))), (mark_unequal 124, tt)))
 
 -- the last literal has no bar after it
 pub bar_stops : (rest : List Token) → NoLiteral (mark 124 ∷ rest) → ⊥

@@ -7,7 +7,7 @@ use Rattle.si_defs.specs.Tokens.{Token, mark, lower}
 use Rattle.si_defs.specs.Grammar.{AreMoreNames, Selection, IsSelection, left_bracket, right_bracket, comma, full_stop}
 use Rattle.si_defs.specs.Grammar as selected
 use Rattle.si_defs.specs.declared.TokenKind.TheVariants as token
-use Rattle.si_defs.proofs.ListLaws.{same_head, same_tail}
+use Rattle.si_defs.proofs.ListLaws.{same_first, same_tail}
 use Rattle.si_parse.specs.Parsing.{ReadsTokens, Anything, NoName}
 use Rattle.si_parse.specs.GrammarRules.{AreMore, IsMark, IsOpening, IsNameToken, AreNames, AreChosen, IsFileToken, AreLast, IsInclude}
 use Rattle.si_parse.proofs.ParseSteps.{parses_none, parses_some, parses_uses, parses_one, parses_never, front_tails}
@@ -71,7 +71,7 @@ chosen_of (n ∷ ns) used (t, others, is, all, e) =
 -- a comma follows where one stands
 comma_follows : (rest xs : List Token) → NoName xs → xs ≡ comma ∷ rest → ⊥
 comma_follows rest [] h e = cc
-comma_follows rest (x ∷ xs) h e = h.0 (same_head e)
+comma_follows rest (x ∷ xs) h e = h.0 (same_first e)
 
 -- without a comma all are selected
 pub selection_all : (tokens : List Token) → ((rest : List Token) → tokens ≡ comma ∷ rest → ⊥) → ReadsTokens IsSelection NoName tokens (Some (selected.all, tokens))

@@ -13,9 +13,9 @@ use Rattle.si_defs.specs.declared.SymKind.{SymKind}
 use Rattle.si_defs.specs.declared.SymKind.TheVariants.{Word, Dollar, Number, Distinct, Equal}
 use Rattle.si_defs.specs.declared.Side.{Side}
 use Rattle.si_defs.specs.declared.Side.TheVariants.{Predicate}
-use Rattle.si_defs.proofs.ListLaws.{same_head, same_tail}
-use Rattle.si_parse.specs.Parsing.{ReadsTokens, Anything, NoBracket, NoSign}
-use Rattle.si_parse.specs.GrammarRules.{function_symbol, as_atom, positively, equation, equality_sign, IsSign, IsStatement, IsNegated}
+use Rattle.si_defs.proofs.ListLaws.{same_first, same_tail}
+use Rattle.si_parse.specs.Parsing.{ReadsTokens, Anything, NoBracket, NoEquation}
+use Rattle.si_parse.specs.GrammarRules.{function_symbol, as_atom, positively, equation, equation_sign, IsEquationSign, IsStatement, IsNegated}
 use Rattle.si_parse.proofs.ParseSteps.{parses_none, parses_some, parses_uses, parses_one, parses_never, front_heads, front_tails}
 use Rattle.si_parse.proofs.GrammarTerms.{First, variable, symbol, term_first, symbol_kind, head_constant, marks_apart, mark_unequal}
 
@@ -52,14 +52,14 @@ atom_of (terms.app s us) m ts h e = atom_by s.kind s.text s.side s.arity us m ts
 -- how a statement is spelled: as a term that is an atom, or as two sides
 pub data Spelled (l : Literal) (ts : List Token) : Type 0 where
   headed : (t : Term) → IsTerm t ts → as_atom t ≡ Some l.atom → l.positive ≡ true → Spelled l ts
-  sided : (left right : Term) (front back : List Token) → IsTerm left front → IsTerm right back → equation left right ≡ l.atom → ts ≡ front ++ equality_sign l.positive ∷ back → Spelled l ts
+  sided : (left right : Term) (front back : List Token) → IsTerm left front → IsTerm right back → equation left right ≡ l.atom → ts ≡ front ++ equation_sign l.positive ∷ back → Spelled l ts
 
 -- a symbol with the other side
 turned : (s : Symbol) (arity : ℕ) → s.side ≡ Predicate → s.arity ≡ arity → predicate_symbol s.kind s.text arity ≡ s
 turned s arity d a = λ i. record { kind = s.kind; text = s.text; side = sym d i; arity = sym a i }
 
 -- two sides
-sides_of : (positive : Bool) (s : Symbol) (l : Term) (us : Terms) (ts : List Token) → AreSides (equality_sign positive) s l us ts → Spelled (record { positive = positive; atom = terms.app s (terms.more l us) }) ts
+sides_of : (positive : Bool) (s : Symbol) (l : Term) (us : Terms) (ts : List Token) → AreSides (equation_sign positive) s l us ts → Spelled (record { positive = positive; atom = terms.app s (terms.more l us) }) ts
 sides_of positive s l terms.none ts h = absurd h
 sides_of positive s l (terms.more r terms.none) ts (is, (front, back, one, two, e)) = sided l r front back one two (ap (λ x. terms.app x (terms.more l (terms.more r terms.none))) (sym is)) e
 sides_of positive s l (terms.more r (terms.more u us)) ts h = absurd h
@@ -82,108 +82,108 @@ spelled_of l ts h = spelled_by l.positive l.atom ts h
 
 -- two sides with a sign between them are a statement
 pub sides_mean : (positive : Bool) (left right : Term) (front back : List Token) → IsTerm left front → IsTerm right back
-    → IsStatement (record { positive = positive; atom = equation left right }) (front ++ equality_sign positive ∷ back)
+    → IsStatement (record { positive = positive; atom = equation left right }) (front ++ equation_sign positive ∷ back)
 sides_mean true left right front back one two = inr (refl, (front, back, one, two, refl))
 sides_mean false left right front back one two = (refl, (front, back, one, two, refl))
 
 -- ---- signs
 -- no sign opens a bracket
-pub sign_no_bracket : (positive : Bool) (rest : List Token) → NoBracket (equality_sign positive ∷ rest)
-sign_no_bracket true rest = (marks_apart 61 40 (λ e. absurd (omega (arith, e))), tt)
-sign_no_bracket false rest = (λ e. mark_unequal 40 (sym e), tt)
+pub equation_sign_no_bracket : (positive : Bool) (rest : List Token) → NoBracket (equation_sign positive ∷ rest)
+equation_sign_no_bracket true rest = (marks_apart 61 40 (λ e. absurd (omega (arith, e))), tt)
+equation_sign_no_bracket false rest = (λ e. mark_unequal 40 (sym e), tt)
 
 -- where no sign may follow, no bracket may
-pub no_sign-bracket : (rest : List Token) → NoSign rest → NoBracket rest
-no_sign-bracket [] h = tt
-no_sign-bracket (t ∷ ts) h = (h.0, tt)
+pub no_equation-bracket : (rest : List Token) → NoEquation rest → NoBracket rest
+no_equation-bracket [] h = tt
+no_equation-bracket (t ∷ ts) h = (h.0, tt)
 
 -- and where neither a bracket nor a sign stands, none follows
-pub no_sign-none : (tokens : List Token) → NoBracket tokens → ReadsTokens IsSign Anything tokens None → NoSign tokens
-no_sign-none [] h s = tt
-no_sign-none (t ∷ ts) h s = (
+pub no_equation-none : (tokens : List Token) → NoBracket tokens → ReadsTokens IsEquationSign Anything tokens None → NoEquation tokens
+no_equation-none [] h s = tt
+no_equation-none (t ∷ ts) h s = (
   h.0,
   (λ e. parses_never s true (mark 61 ∷ []) ts (ap (λ x. x ∷ ts) e) refl tt, (λ e. parses_never s false (not_equal ∷ []) ts (ap (λ x. x ∷ ts) e) refl tt, tt)),
 )
 
 -- and none follows
-pub sign_never : (positive : Bool) (rest after : List Token) → NoSign after → after ≡ equality_sign positive ∷ rest → ⊥
-sign_never positive rest [] h e = cc
-sign_never true rest (t ∷ ts) h e = h.1.0 (same_head e)
-sign_never false rest (t ∷ ts) h e = h.1.1.0 (same_head e)
+pub equation_sign_never : (positive : Bool) (rest after : List Token) → NoEquation after → after ≡ equation_sign positive ∷ rest → ⊥
+equation_sign_never positive rest [] h e = cc
+equation_sign_never true rest (t ∷ ts) h e = h.1.0 (same_first e)
+equation_sign_never false rest (t ∷ ts) h e = h.1.1.0 (same_first e)
 
 -- the signs are different tokens
-pub signs_apart : (a b : Bool) → equality_sign a ≡ equality_sign b → a ≡ b
-signs_apart true true e = refl
-signs_apart false false e = refl
-signs_apart true false e = absurd (mark_unequal 61 e)
-signs_apart false true e = absurd (mark_unequal 61 (sym e))
+pub equation_signs_apart : (a b : Bool) → equation_sign a ≡ equation_sign b → a ≡ b
+equation_signs_apart true true e = refl
+equation_signs_apart false false e = refl
+equation_signs_apart true false e = absurd (mark_unequal 61 e)
+equation_signs_apart false true e = absurd (mark_unequal 61 (sym e))
 
 -- what stands after a sign
-sign_front : {positive : Bool} {ts rest : List Token} → ReadsTokens IsSign Anything ts (Some (positive, rest)) → ts ≡ equality_sign positive ∷ rest
-sign_front {positive = positive} {rest = rest} p = let h = parses_uses positive rest p in h.1 ∙ ap (λ x. x ++ rest) h.2
+equation_sign_front : {positive : Bool} {ts rest : List Token} → ReadsTokens IsEquationSign Anything ts (Some (positive, rest)) → ts ≡ equation_sign positive ∷ rest
+equation_sign_front {positive = positive} {rest = rest} p = let h = parses_uses positive rest p in h.1 ∙ ap (λ x. x ++ rest) h.2
 
 -- so none may stand where none may follow
-pub sign_refused : {positive : Bool} {ts rest : List Token} → ReadsTokens IsSign Anything ts (Some (positive, rest)) → NoSign ts → ⊥
-sign_refused {positive = positive} {ts = ts} {rest = rest} p h = sign_never positive rest ts h (sign_front p)
+pub equation_sign_refused : {positive : Bool} {ts rest : List Token} → ReadsTokens IsEquationSign Anything ts (Some (positive, rest)) → NoEquation ts → ⊥
+equation_sign_refused {positive = positive} {ts = ts} {rest = rest} p h = equation_sign_never positive rest ts h (equation_sign_front p)
 
 -- without a term there is no statement
-pub statement_none : {tokens : List Token} → ReadsTokens IsTerm NoBracket tokens None → ReadsTokens IsStatement NoSign tokens None
+pub statement_none : {tokens : List Token} → ReadsTokens IsTerm NoBracket tokens None → ReadsTokens IsStatement NoEquation tokens None
 statement_none {tokens = tokens} p = parses_none (λ l used after e means follows. never l used after e follows (spelled_of l used means)) where
-  never : (l : Literal) (used after : List Token) → tokens ≡ used ++ after → NoSign after → Spelled l used → ⊥
-  never l used after e follows (headed t one f k) = parses_never p t used after e one (no_sign-bracket after follows)
+  never : (l : Literal) (used after : List Token) → tokens ≡ used ++ after → NoEquation after → Spelled l used → ⊥
+  never l used after e follows (headed t one f k) = parses_never p t used after e one (no_equation-bracket after follows)
   never l used after e follows (sided left right front back one two f g) =
-      parses_never p left front (equality_sign l.positive ∷ back ++ after) (e ∙ ap (λ x. x ++ after) g ∙ append_assoc front (equality_sign l.positive ∷ back) after) one (sign_no_bracket l.positive (back ++ after))
+      parses_never p left front (equation_sign l.positive ∷ back ++ after) (e ∙ ap (λ x. x ++ after) g ∙ append_assoc front (equation_sign l.positive ∷ back) after) one (equation_sign_no_bracket l.positive (back ++ after))
 
 module _ {tokens behind : List Token} {left : Term} (p : ReadsTokens IsTerm NoBracket tokens (Some (left, behind))) where
   -- the term that was read is the left side of every equation
-  left_side : (l : Term) (positive : Bool) (used front back after : List Token) → tokens ≡ used ++ after → IsTerm l front → used ≡ front ++ equality_sign positive ∷ back
-      → (left ≡ l) × (behind ≡ equality_sign positive ∷ back ++ after)
+  left_side : (l : Term) (positive : Bool) (used front back after : List Token) → tokens ≡ used ++ after → IsTerm l front → used ≡ front ++ equation_sign positive ∷ back
+      → (left ≡ l) × (behind ≡ equation_sign positive ∷ back ++ after)
   left_side l positive used front back after e one g =
-      parses_one p l front (equality_sign positive ∷ back ++ after) (e ∙ ap (λ x. x ++ after) g ∙ append_assoc front (equality_sign positive ∷ back) after) one (sign_no_bracket positive (back ++ after))
+      parses_one p l front (equation_sign positive ∷ back ++ after) (e ∙ ap (λ x. x ++ after) g ∙ append_assoc front (equation_sign positive ∷ back) after) one (equation_sign_no_bracket positive (back ++ after))
 
-  module _ {positive : Bool} {next : List Token} (s : ReadsTokens IsSign Anything behind (Some (positive, next))) where
+  module _ {positive : Bool} {next : List Token} (s : ReadsTokens IsEquationSign Anything behind (Some (positive, next))) where
     -- how every other statement goes on after the sign
-    sided_by : (R : Literal → List Token → Type 0) → ((l : Literal) (right : Term) (back after : List Token) → IsTerm right back → next ≡ back ++ after → NoSign after → equation left right ≡ l.atom → positive ≡ l.positive → R l after)
-        → (l : Literal) (used after : List Token) → tokens ≡ used ++ after → IsStatement l used → NoSign after → R l after
+    sided_by : (R : Literal → List Token → Type 0) → ((l : Literal) (right : Term) (back after : List Token) → IsTerm right back → next ≡ back ++ after → NoEquation after → equation left right ≡ l.atom → positive ≡ l.positive → R l after)
+        → (l : Literal) (used after : List Token) → tokens ≡ used ++ after → IsStatement l used → NoEquation after → R l after
     sided_by R k l used after e means follows = by (spelled_of l used means) where
       by : Spelled l used → R l after
-      by (headed t one f g) = absurd (sign_never positive next after follows (sym (parses_one p t used after e one (no_sign-bracket after follows)).1 ∙ sign_front s))
+      by (headed t one f g) = absurd (equation_sign_never positive next after follows (sym (parses_one p t used after e one (no_equation-bracket after follows)).1 ∙ equation_sign_front s))
       by (sided l' right front back one two f g) =
           let h = left_side l' l.positive used front back after e one g in
-          let same = sym (sign_front s) ∙ h.1 in
-          k l right back after two (same_tail same) follows (ap (λ x. equation x right) h.0 ∙ f) (signs_apart positive l.positive (same_head same))
+          let same = sym (equation_sign_front s) ∙ h.1 in
+          k l right back after two (same_tail same) follows (ap (λ x. equation x right) h.0 ∙ f) (equation_signs_apart positive l.positive (same_first same))
 
     -- no term after the sign
-    pub statement_stop : ReadsTokens IsTerm NoBracket next None → ReadsTokens IsStatement NoSign tokens None
-    statement_stop q = parses_none (sided_by (λ l after. ⊥) (λ l right back after two e follows f g. parses_never q right back after e two (no_sign-bracket after follows)))
+    pub statement_stop : ReadsTokens IsTerm NoBracket next None → ReadsTokens IsStatement NoEquation tokens None
+    statement_stop q = parses_none (sided_by (λ l after. ⊥) (λ l right back after two e follows f g. parses_never q right back after e two (no_equation-bracket after follows)))
 
     -- two sides
     pub statement_sides : {right : Term} {rest : List Token} → ReadsTokens IsTerm NoBracket next (Some (right, rest))
-        → ReadsTokens IsStatement NoSign tokens (Some (record { positive = positive; atom = equation left right }, rest))
+        → ReadsTokens IsStatement NoEquation tokens (Some (record { positive = positive; atom = equation left right }, rest))
     statement_sides {right = right} {rest = rest} q =
         let h = parses_uses left behind p in
         let k = parses_uses right rest q in
-        parses_some (record { positive = positive; atom = equation left right }) (h.0 ++ equality_sign positive ∷ k.0) rest
-        (h.1 ∙ ap (λ x. h.0 ++ x) (sign_front s ∙ ap (λ x. equality_sign positive ∷ x) k.1) ∙ sym (append_assoc h.0 (equality_sign positive ∷ k.0) rest))
+        parses_some (record { positive = positive; atom = equation left right }) (h.0 ++ equation_sign positive ∷ k.0) rest
+        (h.1 ∙ ap (λ x. h.0 ++ x) (equation_sign_front s ∙ ap (λ x. equation_sign positive ∷ x) k.1) ∙ sym (append_assoc h.0 (equation_sign positive ∷ k.0) rest))
         (sides_mean positive left right h.0 k.0 h.2 k.2)
         (sided_by (λ l after. (record { positive = positive; atom = equation left right } ≡ l) × (rest ≡ after)) (λ l other back after two e follows f g.
-        let same = parses_one q other back after e two (no_sign-bracket after follows) in
+        let same = parses_one q other back after e two (no_equation-bracket after follows) in
         (ap (λ x. record { positive = positive; atom = equation left x }) same.0 ∙ (λ i. record { positive = g i; atom = f i }), same.1)))
 
   -- no sign after the term
-  module _ (s : ReadsTokens IsSign Anything behind None) where
+  module _ (s : ReadsTokens IsEquationSign Anything behind None) where
     headed_by : (R : Literal → List Token → Type 0) → ((l : Literal) (after : List Token) → behind ≡ after → as_atom left ≡ Some l.atom → l.positive ≡ true → R l after)
-        → (l : Literal) (used after : List Token) → tokens ≡ used ++ after → IsStatement l used → NoSign after → R l after
+        → (l : Literal) (used after : List Token) → tokens ≡ used ++ after → IsStatement l used → NoEquation after → R l after
     headed_by R k l used after e means follows = by (spelled_of l used means) where
       by : Spelled l used → R l after
       by (headed t one f g) =
-          let same = parses_one p t used after e one (no_sign-bracket after follows) in
+          let same = parses_one p t used after e one (no_equation-bracket after follows) in
           k l after same.1 (ap as_atom same.0 ∙ f) g
       by (sided l' right front back one two f g) =
           let h = left_side l' l.positive used front back after e one g in
-          absurd (parses_never s l.positive (equality_sign l.positive ∷ []) (back ++ after) h.1 refl tt)
+          absurd (parses_never s l.positive (equation_sign l.positive ∷ []) (back ++ after) h.1 refl tt)
 
-    pub statement_bare : (result : Option Term) → as_atom left ≡ result → ReadsTokens IsStatement NoSign tokens (option_map (λ m. (positively m, behind)) result)
+    pub statement_bare : (result : Option Term) → as_atom left ≡ result → ReadsTokens IsStatement NoEquation tokens (option_map (λ m. (positively m, behind)) result)
     statement_bare None none = parses_none (headed_by (λ l after. ⊥) (λ l after e f g. none-some l.atom (sym none ∙ f)))
     statement_bare (Some m) some =
         let h = parses_uses left behind p in
@@ -192,18 +192,18 @@ module _ {tokens behind : List Token} {left : Term} (p : ReadsTokens IsTerm NoBr
 
 -- ---- atoms
 -- a positive statement is an atom
-pub atom_some : {tokens rest : List Token} (l : Literal) → ReadsTokens IsStatement NoSign tokens (Some (l, rest)) → l.positive ≡ true → ReadsTokens IsAtom NoSign tokens (Some (l.atom, rest))
+pub atom_some : {tokens rest : List Token} (l : Literal) → ReadsTokens IsStatement NoEquation tokens (Some (l, rest)) → l.positive ≡ true → ReadsTokens IsAtom NoEquation tokens (Some (l.atom, rest))
 atom_some {rest = rest} l p k =
     let h = parses_uses l rest p in
     parses_some l.atom h.0 rest h.1 (subst (λ x. IsStatement (record { positive = x; atom = l.atom }) h.0) k h.2)
     (λ m used after e means follows. let same = parses_one p (positively m) used after e means follows in (ap (λ (x : Literal). x.atom) same.0, same.1))
 
 -- a negative one is none
-pub atom_negative : {tokens rest : List Token} (l : Literal) → ReadsTokens IsStatement NoSign tokens (Some (l, rest)) → l.positive ≡ false → ReadsTokens IsAtom NoSign tokens None
+pub atom_negative : {tokens rest : List Token} (l : Literal) → ReadsTokens IsStatement NoEquation tokens (Some (l, rest)) → l.positive ≡ false → ReadsTokens IsAtom NoEquation tokens None
 atom_negative l p k = parses_none (λ m used after e means follows.
     let same = parses_one p (positively m) used after e means follows in false≢true (sym k ∙ ap (λ (x : Literal). x.positive) same.0))
 
-pub atom_none : {tokens : List Token} → ReadsTokens IsStatement NoSign tokens None → ReadsTokens IsAtom NoSign tokens None
+pub atom_none : {tokens : List Token} → ReadsTokens IsStatement NoEquation tokens None → ReadsTokens IsAtom NoEquation tokens None
 atom_none p = parses_none (λ m used after e means follows. parses_never p (positively m) used after e means follows)
 
 -- the first token of a statement
@@ -213,7 +213,7 @@ statement_first l ts h = by (spelled_of l ts h) where
   by (headed t one f k) = term_first t ts one
   by (sided left right front back one two f g) =
       let k = term_first left front one in
-      (k.0, k.1 ++ equality_sign l.positive ∷ back, k.2, g ∙ ap (λ x. x ++ equality_sign l.positive ∷ back) k.3)
+      (k.0, k.1 ++ equation_sign l.positive ∷ back, k.2, g ∙ ap (λ x. x ++ equation_sign l.positive ∷ back) k.3)
 
 -- is no mark
 pub mark_no_first : (c : ℕ) (t : Token) → First t → mark c ≡ t → ⊥
@@ -227,36 +227,36 @@ statement_no_mark c l used rest after tokens opens e h =
 
 -- ---- negations
 -- where a closing bracket stands no sign does
-pub right_no_sign : (rest : List Token) → NoSign (right_bracket ∷ rest)
-right_no_sign rest =
+pub right_no_equation : (rest : List Token) → NoEquation (right_bracket ∷ rest)
+right_no_equation rest =
     (marks_apart 41 40 (λ e. absurd (omega (arith, e))), (marks_apart 41 61 (λ e. absurd (omega (arith, e))), (mark_unequal 41, tt)))
 
 module _ (rest : List Token) where
   -- an atom after a bracket
   round_by : (R : Term → List Token → Type 0) → ((m : Term) (inner after : List Token) → IsAtom m inner → rest ≡ inner ++ right_bracket ∷ after → R m after)
-      → (m : Term) (used after : List Token) → left_bracket ∷ rest ≡ used ++ after → IsNegated m used → NoSign after → R m after
+      → (m : Term) (used after : List Token) → left_bracket ∷ rest ≡ used ++ after → IsNegated m used → NoEquation after → R m after
   round_by R k m used after e (inl h) follows = absurd (statement_no_mark 40 (positively m) used rest after (left_bracket ∷ rest) refl e h)
   round_by R k m used after e (inr (inner, h, g)) follows = k m inner after h (front_tails after e g ∙ append_assoc inner (right_bracket ∷ []) after)
 
-  pub negated_none : ReadsTokens IsAtom NoSign rest None → ReadsTokens IsNegated NoSign (left_bracket ∷ rest) None
-  negated_none p = parses_none (round_by (λ m after. ⊥) (λ m inner after h e. parses_never p m inner (right_bracket ∷ after) e h (right_no_sign after)))
+  pub negated_none : ReadsTokens IsAtom NoEquation rest None → ReadsTokens IsNegated NoEquation (left_bracket ∷ rest) None
+  negated_none p = parses_none (round_by (λ m after. ⊥) (λ m inner after h e. parses_never p m inner (right_bracket ∷ after) e h (right_no_equation after)))
 
-  pub negated_stop : {m : Term} {behind : List Token} → ReadsTokens IsAtom NoSign rest (Some (m, behind)) → ((after : List Token) → behind ≡ right_bracket ∷ after → ⊥) → ReadsTokens IsNegated NoSign (left_bracket ∷ rest) None
-  negated_stop p none = parses_none (round_by (λ m after. ⊥) (λ m inner after h e. none after (parses_one p m inner (right_bracket ∷ after) e h (right_no_sign after)).1))
+  pub negated_stop : {m : Term} {behind : List Token} → ReadsTokens IsAtom NoEquation rest (Some (m, behind)) → ((after : List Token) → behind ≡ right_bracket ∷ after → ⊥) → ReadsTokens IsNegated NoEquation (left_bracket ∷ rest) None
+  negated_stop p none = parses_none (round_by (λ m after. ⊥) (λ m inner after h e. none after (parses_one p m inner (right_bracket ∷ after) e h (right_no_equation after)).1))
 
-  pub negated_some : {m : Term} {behind : List Token} → ReadsTokens IsAtom NoSign rest (Some (m, right_bracket ∷ behind)) → ReadsTokens IsNegated NoSign (left_bracket ∷ rest) (Some (m, behind))
+  pub negated_some : {m : Term} {behind : List Token} → ReadsTokens IsAtom NoEquation rest (Some (m, right_bracket ∷ behind)) → ReadsTokens IsNegated NoEquation (left_bracket ∷ rest) (Some (m, behind))
   negated_some {m = m} {behind = behind} p =
       let h = parses_uses m (right_bracket ∷ behind) p in
       parses_some m (left_bracket ∷ h.0 ++ right_bracket ∷ []) behind (ap (λ x. left_bracket ∷ x) (h.1 ∙ sym (append_assoc h.0 (right_bracket ∷ []) behind))) (inr (h.0, h.2, refl))
-      (round_by (λ other after. (m ≡ other) × (behind ≡ after)) (λ other inner after g e. let same = parses_one p other inner (right_bracket ∷ after) e g (right_no_sign after) in (same.0, same_tail same.1)))
+      (round_by (λ other after. (m ≡ other) × (behind ≡ after)) (λ other inner after g e. let same = parses_one p other inner (right_bracket ∷ after) e g (right_no_equation after) in (same.0, same_tail same.1)))
 
 -- without a bracket, an atom
-pub negated_bare : {tokens : List Token} → ((rest : List Token) → tokens ≡ left_bracket ∷ rest → ⊥) → (result : Option (Term × List Token)) → ReadsTokens IsAtom NoSign tokens result → ReadsTokens IsNegated NoSign tokens result
+pub negated_bare : {tokens : List Token} → ((rest : List Token) → tokens ≡ left_bracket ∷ rest → ⊥) → (result : Option (Term × List Token)) → ReadsTokens IsAtom NoEquation tokens result → ReadsTokens IsNegated NoEquation tokens result
 negated_bare {tokens = tokens} none result p = record {
   found = λ m rest e. let h = p.found m rest e in (h.0, h.1, inl h.2);
   every = λ m used rest e means follows. by m used rest e follows means;
 } where
-  by : (m : Term) (used rest : List Token) → tokens ≡ used ++ rest → NoSign rest → IsNegated m used → result ≡ Some (m, rest)
+  by : (m : Term) (used rest : List Token) → tokens ≡ used ++ rest → NoEquation rest → IsNegated m used → result ≡ Some (m, rest)
   by m used rest e follows (inl h) = p.every m used rest e h follows
   by m used rest e follows (inr (inner, h, g)) = absurd (none _ (e ∙ ap (λ x. x ++ rest) g))
 
@@ -279,7 +279,7 @@ module _ (rest : List Token) where
   tilde_of false m used after e (inr (inl (us, h, g))) = (refl, (left_bracket ∷ us ++ right_bracket ∷ [], inr (us, h, refl), front_tails after e g))
   tilde_of false m used after e (inr (inr h)) = absurd (statement_no_mark 126 (negatively m) used rest after (mark 126 ∷ rest) refl e h)
 
-  pub literal_tilde : (result : Option (Term × List Token)) → ReadsTokens IsNegated NoSign rest result → ReadsTokens IsLiteral NoSign (mark 126 ∷ rest) (option_map (λ r. (negatively r.0, r.1)) result)
+  pub literal_tilde : (result : Option (Term × List Token)) → ReadsTokens IsNegated NoEquation rest result → ReadsTokens IsLiteral NoEquation (mark 126 ∷ rest) (option_map (λ r. (negatively r.0, r.1)) result)
   literal_tilde None p = parses_none (λ l used after e means follows.
       let k = tilde_of l.positive l.atom used after e means in parses_never p l.atom k.1.0 after k.1.2 k.1.1 follows)
   literal_tilde (Some (m, behind)) p =
@@ -294,7 +294,7 @@ literal_of_statement : (positive : Bool) (m : Term) (ts : List Token) → IsStat
 literal_of_statement true m ts h = h
 literal_of_statement false m ts h = inr (inr h)
 
-pub literal_plain : {tokens : List Token} → ((rest : List Token) → tokens ≡ mark 126 ∷ rest → ⊥) → (result : Option (Literal × List Token)) → ReadsTokens IsStatement NoSign tokens result → ReadsTokens IsLiteral NoSign tokens result
+pub literal_plain : {tokens : List Token} → ((rest : List Token) → tokens ≡ mark 126 ∷ rest → ⊥) → (result : Option (Literal × List Token)) → ReadsTokens IsStatement NoEquation tokens result → ReadsTokens IsLiteral NoEquation tokens result
 literal_plain {tokens = tokens} none result p = record {
   found = λ l rest e. let h = p.found l rest e in (h.0, h.1, literal_of_statement l.positive l.atom h.0 h.2);
   every = λ l used rest e means follows. p.every l used rest e (by l.positive l.atom used rest e means) follows;

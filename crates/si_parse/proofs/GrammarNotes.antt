@@ -7,7 +7,7 @@ use Rattle.si_defs.specs.Tokens.{Token, mark}
 use Rattle.si_defs.specs.Grammar.{Bracket, round, square, neither, opening_of, closing_of, brackets_behind, right_bracket, comma}
 use Rattle.si_defs.specs.declared.TokenKind.{TokenKind}
 use Rattle.si_defs.specs.declared.TokenKind.TheVariants as token
-use Rattle.si_defs.proofs.ListLaws.{same_head, same_tail}
+use Rattle.si_defs.proofs.ListLaws.{same_first, same_tail}
 use Rattle.si_lex.proofs.BracketLaws.{and_then, open_after, balanced_open, open_balanced}
 use Rattle.si_parse.specs.Parsing.{ReadsTokens, Anything, NoLiteral}
 use Rattle.si_parse.specs.GrammarRules.{AreAnnotations, IsClosed}
@@ -29,19 +29,19 @@ beside_more u v front notes t stack rest behind e (goes_on next f) = goes_on nex
 
 pub beside : (front notes : List Token) (t : Token) (pending stack : List Bracket) (rest behind : List Token) → open_after front pending ≡ Some stack → open_after notes pending ≡ Some []
     → front ++ t ∷ rest ≡ notes ++ right_bracket ∷ behind → Beside front notes t stack rest behind
-beside [] [] t pending stack rest behind h k e = ends refl (sym (same_Some pending stack h) ∙ same_Some pending [] k) (same_head e) (same_tail e)
+beside [] [] t pending stack rest behind h k e = ends refl (sym (same_Some pending stack h) ∙ same_Some pending [] k) (same_first e) (same_tail e)
 beside [] (u ∷ us) t pending stack rest behind h k e = by (brackets_behind u pending) refl k where
   by : (o : Option (List Bracket)) → brackets_behind u pending ≡ o → and_then (open_after us) o ≡ Some [] → Beside [] (u ∷ us) t stack rest behind
   by None f g = absurd (none-some [] g)
-  by (Some next) f g = goes_on next (ap (λ x. brackets_behind x stack) (same_head e) ∙ ap (brackets_behind u) (sym (same_Some pending stack h)) ∙ f)
+  by (Some next) f g = goes_on next (ap (λ x. brackets_behind x stack) (same_first e) ∙ ap (brackets_behind u) (sym (same_Some pending stack h)) ∙ f)
 beside (f ∷ fs) [] t pending stack rest behind h k e =
-    absurd (none-some stack (sym (ap (λ p. and_then (open_after fs) (brackets_behind right_bracket p)) (same_Some pending [] k)) ∙ ap (λ x. and_then (open_after fs) (brackets_behind x pending)) (sym (same_head e)) ∙ h))
+    absurd (none-some stack (sym (ap (λ p. and_then (open_after fs) (brackets_behind right_bracket p)) (same_Some pending [] k)) ∙ ap (λ x. and_then (open_after fs) (brackets_behind x pending)) (sym (same_first e)) ∙ h))
 beside (f ∷ fs) (u ∷ us) t pending stack rest behind h k e =
-    by (λ p g l. beside fs us t p stack rest behind g l (same_tail e)) (brackets_behind f pending) h (ap (λ x. and_then (open_after us) (brackets_behind x pending)) (same_head e) ∙ k) where
+    by (λ p g l. beside fs us t p stack rest behind g l (same_tail e)) (brackets_behind f pending) h (ap (λ x. and_then (open_after us) (brackets_behind x pending)) (same_first e) ∙ k) where
       by : ((p : List Bracket) → open_after fs p ≡ Some stack → open_after us p ≡ Some [] → Beside fs us t stack rest behind)
           → (o : Option (List Bracket)) → and_then (open_after fs) o ≡ Some stack → and_then (open_after us) o ≡ Some [] → Beside (f ∷ fs) (u ∷ us) t stack rest behind
       by again None g l = absurd (none-some stack g)
-      by again (Some p) g l = beside_more f u fs us t stack rest behind (same_head e) (again p g l)
+      by again (Some p) g l = beside_more f u fs us t stack rest behind (same_first e) (again p g l)
 
 -- after annotations and their bracket nothing balances
 overrun : (notes behind : List Token) (pending stack : List Bracket) → open_after notes pending ≡ Some [] → open_after (notes ++ right_bracket ∷ behind) pending ≡ Some stack → ⊥
@@ -144,7 +144,7 @@ closed_noted tokens rest begins result p = record {
   found u behind used e (notes, some, balanced, f) = (comma ∷ used, begins ∙ ap (λ x. comma ∷ x) e, (comma ∷ notes, (refl, some, balanced), ap (λ x. comma ∷ x) f))
 
   every : (u : Unit {0}) (used behind : List Token) → tokens ≡ used ++ behind → IsClosed used → result ≡ Some (u, behind)
-  every u used behind e ([], extra, f) = absurd (marks_apart 44 41 (λ g. absurd (omega (arith, g))) (same_head (sym begins ∙ e ∙ ap (λ x. x ++ behind) f)))
+  every u used behind e ([], extra, f) = absurd (marks_apart 44 41 (λ g. absurd (omega (arith, g))) (same_first (sym begins ∙ e ∙ ap (λ x. x ++ behind) f)))
   every u used behind e (t ∷ ts, (is, some, balanced), f) =
       p.every u (ts ++ right_bracket ∷ []) behind (same_tail (sym begins ∙ e ∙ ap (λ x. x ++ behind) f)) (ts, some, balanced, refl) tt
 

@@ -12,7 +12,7 @@ use Rattle.si_defs.specs.declared.SymKind.TheVariants.{Word, Dollar, Number, Dis
 use Rattle.si_defs.specs.declared.Side.TheVariants.{Function}
 use Rattle.si_defs.specs.declared.TokenKind.{TokenKind}
 use Rattle.si_defs.specs.declared.TokenKind.TheVariants as token
-use Rattle.si_defs.proofs.ListLaws.{same_head, same_tail}
+use Rattle.si_defs.proofs.ListLaws.{same_first, same_tail}
 use Rattle.si_parse.specs.Parsing.{ReadsTokens, NoBracket, NoTerm}
 use Rattle.si_parse.specs.GrammarRules.{AreMore, AreTerms, IsApplied, function_symbol}
 use Rattle.si_parse.proofs.ParseSteps.{parses_none, parses_some, parses_uses, parses_one, parses_never, front_heads, front_tails}
@@ -20,7 +20,7 @@ use Rattle.si_parse.proofs.ParseSteps.{parses_none, parses_some, parses_uses, pa
 -- ---- marks
 -- different marks are different tokens
 pub marks_apart : (c d : ℕ) → (c ≡ d → ⊥) → mark c ≡ mark d → ⊥
-marks_apart c d h e = h (same_head (ap (λ (t : Token). t.text) e))
+marks_apart c d h e = h (same_first (ap (λ (t : Token). t.text) e))
 
 -- a mark is no inequality sign
 pub mark_unequal : (c : ℕ) → mark c ≡ not_equal → ⊥
@@ -38,7 +38,7 @@ no_bracket-none (t ∷ ts) h = (λ e. h ts (ap (λ x. x ∷ ts) e), tt)
 -- no bracket follows where one stands
 pub opens : (xs ys : List Token) → NoBracket xs → xs ≡ left_bracket ∷ ys → ⊥
 opens [] ys h e = cc
-opens (x ∷ xs) ys h e = h.0 (same_head e)
+opens (x ∷ xs) ys h e = h.0 (same_first e)
 
 -- ---- which symbol a token is
 abbrev pub symbol_kind : TokenKind → Option SymKind

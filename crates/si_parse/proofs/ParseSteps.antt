@@ -2,7 +2,7 @@
 use Rattle.std.proofs.Common.{◌≡◌, List, ◌∷◌, ◌++◌, Option, Some, None, refl, sym, ap, ◌∙◌, subst}
 use Rattle.std.proofs.lemmas.Option.{none-some, same_Some}
 use Rattle.si_defs.specs.Tokens.{Token}
-use Rattle.si_defs.proofs.ListLaws.{same_head, same_tail}
+use Rattle.si_defs.proofs.ListLaws.{same_first, same_tail}
 use Rattle.si_parse.specs.Parsing.{ReadsTokens}
 
 -- of equal meanings
@@ -63,7 +63,7 @@ parses_refused {Follows = Follows} p refused = parses_none (λ other used behind
 -- ---- fronts of lists
 -- the first token of a front that is known
 pub front_heads : {x y : Token} {xs used ys : List Token} (rest : List Token) → x ∷ xs ≡ used ++ rest → used ≡ y ∷ ys → x ≡ y
-front_heads rest e f = same_head (e ∙ ap (λ u. u ++ rest) f)
+front_heads rest e f = same_first (e ∙ ap (λ u. u ++ rest) f)
 
 -- and what stands after it
 pub front_tails : {x y : Token} {xs used ys : List Token} (rest : List Token) → x ∷ xs ≡ used ++ rest → used ≡ y ∷ ys → xs ≡ ys ++ rest

@@ -14,7 +14,7 @@ use Rattle.si_term.specs.declared.clause.Literal as program
 use Rattle.si_term.specs.declared.term.Term as program_term
 use Rattle.si_lex.specs.Lexemes.{tokens_of}
 use Rattle.si_lex.specs.Lexing.{IsLexing}
-use Rattle.si_parse.specs.Parsing.{NoBracket, NoSign, Reads, ReadsTokens}
+use Rattle.si_parse.specs.Parsing.{NoBracket, NoEquation, Reads, ReadsTokens}
 use Rattle.si_parse.proofs.ParseWhole.{whole_means, whole_only, whole_none}
 use Rattle.si_parse.specs.Reading.{IsOfKind, ReadsPattern, IsWholePattern, ReadsWhole}
 use Rattle.si_lex.specs.declared.lexeme.Lexeme.{Lexeme}
@@ -25,7 +25,7 @@ use Rattle.si_parse.specs.declared.pattern.PatternKind.TheVariants as kind
 
 -- ---- tokens
 -- a literal with nothing left is what all the tokens spell
-pub literal_whole : (tokens : List Lexeme) (l : clauses.Literal) (r : Bor (List Lexeme)) → r.now ≡ [] → ReadsTokens IsLiteral NoSign (tokens_of tokens) (Some (l, tokens_of r.now))
+pub literal_whole : (tokens : List Lexeme) (l : clauses.Literal) (r : Bor (List Lexeme)) → r.now ≡ [] → ReadsTokens IsLiteral NoEquation (tokens_of tokens) (Some (l, tokens_of r.now))
     → IsSoundPattern (literal_pattern l) → IsWholePattern (tokens_of tokens) kind.Lit (literal_pattern l)
 literal_whole tokens l r none p sound =
     record {
@@ -39,7 +39,7 @@ literal_whole tokens l r none p sound =
       by (term_pattern t) k o = absurd k
 
 -- where something is left, or nothing was found, the tokens spell no literal
-pub literal_left : (tokens : List Lexeme) (found : Option (program.Literal × Bor (List Lexeme))) → Reads literal_of IsLiteral NoSign tokens found
+pub literal_left : (tokens : List Lexeme) (found : Option (program.Literal × Bor (List Lexeme))) → Reads literal_of IsLiteral NoEquation tokens found
     → ((l : program.Literal) (r : Bor (List Lexeme)) → found ≡ Some (l, r) → r.now ≡ [] → ⊥) → (p : clauses.Pattern) → IsOfKind kind.Lit p → IsPattern p (tokens_of tokens) → ⊥
 literal_left tokens found p left (literal_pattern m) k o = whole_none literal_of tokens tt found p left m o
 literal_left tokens found p left (term_pattern t) k o = k

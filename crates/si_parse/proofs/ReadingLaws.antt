@@ -1,15 +1,16 @@
 -- From tokens to the bytes that they stand in: what was read of the tokens is what the bytes mean.
 use Rattle.std.proofs.Common.{◌≡◌, ℕ, ◌+◌, ◌≤◌, List, [], ◌∷◌, ◌++◌, length, drop, Option, Some, None, refl, ap, sym, ◌∙◌, subst, arith, append-nil}
 use Rattle.std.proofs.lemmas.List.{length-map, length-append, length-drop}
+use Rattle.std.specs.List.{concat}
 use Rattle.si_defs.specs.Bytes.{Bytes}
 use Rattle.si_defs.specs.Clauses.{Clause}
-use Rattle.si_defs.specs.Tokens.{Token, Spells, NextToken, AreBlanks, Begins, joined, lower}
+use Rattle.si_defs.specs.Tokens.{Token, Spells, NextToken, AreBlanks, Begins, lower}
 use Rattle.si_defs.specs.Grammar.{Selection, Item, clause_item, include_item, IsClause, IsItem, left_bracket}
 use Rattle.si_defs.specs.Substitutions.{IsAmong}
 use Rattle.si_defs.specs.Texts.{BeginsWithItem, IsForeign, IsText, languages}
 use Rattle.si_defs.specs.declared.TokenKind.{TokenKind}
 use Rattle.si_defs.specs.declared.TokenKind.TheVariants.{Lower, Upper, Dollar, Int, Single, Double, NotEqual, Mark}
-use Rattle.si_defs.proofs.ListLaws.{same_head}
+use Rattle.si_defs.proofs.ListLaws.{same_first}
 use Rattle.si_defs.proofs.TokenLaws.{begins_split}
 use Rattle.si_lex.specs.Lexemes.{token_of, tokens_of}
 use Rattle.si_lex.specs.Lexing.{IsLexing, AreItemTokens}
@@ -48,7 +49,7 @@ spelled_some Mark text [] h = let e : [] ≡ h.1.0 ∷ [] = h.0 ∙ h.1.1 in cc
 next_shorter : (a b : Bytes) (t : Token) → NextToken a t b → 1 + length b ≤ length a
 next_shorter a b t n =
     let some = spelled_some t.kind t.text n.stands.spelling n.stands.spelled in
-    let whole : length a ≡ length (joined n.skips.blanks) + length n.place = ap length n.skips.whole ∙ length-append (joined n.skips.blanks) n.place in
+    let whole : length a ≡ length (concat n.skips.blanks) + length n.place = ap length n.skips.whole ∙ length-append (concat n.skips.blanks) n.place in
     let front : length n.place ≡ length n.stands.spelling + length b = ap length n.stands.front ∙ length-append n.stands.spelling b in
     omega arith
 
@@ -201,7 +202,7 @@ no_item_read bytes at tokens start end why h p q result f = by tokens refl why r
 -- a clause is no include
 clause_no_include : (c : Clause) (file : Bytes) (s : Selection) (ts : List Token) → IsItem (clause_item c) ts → IsItem (include_item file s) ts → ⊥
 clause_no_include c file s ts (name, formula, extra, is_name, is_formula, is_extra, e) (names, selection, f) =
-    let words : lower (Rattle.std.specs.Prelude.codes "cnf") ≡ lower (Rattle.std.specs.Prelude.codes "include") = same_head (sym e ∙ f) in
+    let words : lower (Rattle.std.specs.Prelude.codes "cnf") ≡ lower (Rattle.std.specs.Prelude.codes "include") = same_first (sym e ∙ f) in
     let texts : Rattle.std.specs.Prelude.codes "cnf" ≡ Rattle.std.specs.Prelude.codes "include" = ap (λ (t : Token). t.text) words in
     absurd (omega (arith, ap length texts))
 

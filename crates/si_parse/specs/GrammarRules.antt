@@ -77,12 +77,12 @@ abbrev pub equation : Term → Term → Term
 equation l r = terms.app equality (terms.more l (terms.more r terms.none))
 
 -- the sign of an equation, and of its negation
-abbrev pub equality_sign : Bool → Token
-equality_sign true = mark 61
-equality_sign false = not_equal
+abbrev pub equation_sign : Bool → Token
+equation_sign true = mark 61
+equation_sign false = not_equal
 
-abbrev pub IsSign : Bool → List Token → Type 0
-IsSign positive ts = ts ≡ equality_sign positive ∷ []
+abbrev pub IsEquationSign : Bool → List Token → Type 0
+IsEquationSign positive ts = ts ≡ equation_sign positive ∷ []
 
 -- a literal that does not begin with a tilde
 abbrev pub IsStatement : Literal → List Token → Type 0

@@ -29,9 +29,9 @@ Without signs (t ∷ ts) = AllByRecursion (λ sign. t ≡ sign → ⊥) signs
 abbrev pub NoBracket : List Token → Type 0
 NoBracket rest = Without (left_bracket ∷ []) rest
 
--- no bracket and no equality sign follows, so a term is no side of an equation
-abbrev pub NoSign : List Token → Type 0
-NoSign rest = Without (left_bracket ∷ mark 61 ∷ not_equal ∷ []) rest
+-- no bracket and no sign of an equation follows, so a term is no side of one
+abbrev pub NoEquation : List Token → Type 0
+NoEquation rest = Without (left_bracket ∷ mark 61 ∷ not_equal ∷ []) rest
 
 -- no bar follows either, so a literal is the last one
 abbrev pub NoLiteral : List Token → Type 0

@@ -21,7 +21,7 @@ mod terms;
 pub use clauses::clause;
 pub use formulas::formula;
 pub use includes::{Selection, include};
-pub use literals::{literal, sign};
+pub use literals::{equation_sign, literal};
 pub use names::{file, name};
 pub use terms::term;
 

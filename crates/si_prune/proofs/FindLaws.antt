@@ -18,7 +18,7 @@ use Rattle.si_defs.proofs.ListLaws.{all_at, all_from, get_some, get_among}
 use Rattle.si_flat.specs.declared.Cell.{Cell}
 use Rattle.si_flat.specs.declared.Cell.TheVariants as cell
 use Rattle.si_flat.specs.Rows.{CellPair, left_sides}
-use Rattle.si_changes.proofs.Borrowed.{occurs_not}
+use Rattle.si_legal.proofs.SplitLaws.{occurs_not}
 use Rattle.si_prune.specs.Pruning.{AreInOrder, AreNumbersInOrder, part_in}
 
 -- ---- what is bound

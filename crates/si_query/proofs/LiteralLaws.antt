@@ -13,7 +13,7 @@ use Rattle.si_defs.specs.declared.SymKind.{SymKind}
 use Rattle.si_defs.specs.declared.Side.TheVariants.{Predicate}
 use Rattle.si_lex.specs.Lexemes.{token_of, tokens_of}
 use Rattle.si_lex.specs.declared.lexeme.Lexeme.{Lexeme}
-use Rattle.si_parse.specs.GrammarRules.{IsMark, IsSign, function_symbol}
+use Rattle.si_parse.specs.GrammarRules.{IsMark, IsEquationSign, function_symbol}
 use Rattle.si_parse.specs.Parsing.{Anything, Passes, Reads, ReadsTokens, NoBracket}
 use Rattle.si_parse.proofs.ParseReads.{first_token, token_at, others_of, mark_front}
 use Rattle.si_parse.proofs.ParseSteps.{parses_at}
@@ -24,16 +24,16 @@ use Rattle.si_flat.specs.Flattening.{WalkState, entry_scheme, term_piece, Flatte
 use Rattle.si_query.specs.Reading.{IsHeadKind, ReadsApplied, ReadsAtom, ReadsLiteral, ReadsNegated, ReadsStatement, statement}
 
 -- where no sign was found
-pub no_sign : {A : Type 0} (found : Option A) → is_some found ≡ false → found ≡ None
-no_sign None h = refl
-no_sign (Some x) h = absurd (false≢true (sym h))
+pub no_equation : {A : Type 0} (found : Option A) → is_some found ≡ false → found ≡ None
+no_equation None h = refl
+no_equation (Some x) h = absurd (false≢true (sym h))
 
 module _ (pairs : Numbering) (tokens : List Lexeme) (a b : WalkState) where
   -- a predicate with its arguments, by its first token
   pub predicate_read : (kind : SymKind) (arity : ℕ) (positive : Bool) (rest : List Lexeme) (found : Option (Bool × Bor (List Lexeme))) (some : 1 ≤ length tokens)
       → IsHeadKind (token_at tokens 0).kind kind
       → {c d : WalkState} (h : ReadsApplied pairs (others_of tokens) c d arity rest)
-      → Reads (λ (x : Bool). x) IsSign Anything rest found → found ≡ None
+      → Reads (λ (x : Bool). x) IsEquationSign Anything rest found → found ≡ None
       → Flattens pairs (entry_scheme Query positive) a b
       (term_piece (terms.app (record { kind = kind; text = (token_of (token_at tokens 0)).text; side = Predicate; arity = arity }) h.arguments))
       → ReadsStatement pairs true positive tokens a b rest
@@ -46,7 +46,7 @@ module _ (pairs : Numbering) (tokens : List Lexeme) (a b : WalkState) where
       parses_at (first_token tokens some) refl (term_head first (tokens_of (others_of tokens)) kind is_kind head _ (h.read kind first.text)) in
       record {
         atom = atom;
-        read = statement_bare read (subst (Reads (λ (x : Bool). x) IsSign Anything rest) none signs) (Some atom) (k.atom first.text arity h.arguments);
+        read = statement_bare read (subst (Reads (λ (x : Bool). x) IsEquationSign Anything rest) none signs) (Some atom) (k.atom first.text arity h.arguments);
         flat = flat;
       }
 

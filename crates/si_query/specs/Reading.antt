@@ -1,20 +1,22 @@
 -- What readers give that write cells as they read tokens. What was read is in si_parse's words, and
 -- what was written in si_flat's.
-use Rattle.std.specs.Prelude.{◌≡◌, ℕ, ◌+◌, ◌^◌, ◌<◌, ◌≤◌, Bool, false, List, length, Some}
+use Rattle.std.specs.Prelude.{◌≡◌, ◌⊎◌, ℕ, ◌+◌, ◌^◌, ◌<◌, ◌≤◌, Bool, false, List, length, Some}
+use Rattle.std.specs.List.{AllByRecursion}
 use Rattle.si_defs.specs.Bytes.{Bytes}
 use Rattle.si_defs.specs.Terms as terms
 use Rattle.si_defs.specs.Symbols.{Numbering}
 use Rattle.si_defs.specs.Clauses as clauses
-use Rattle.si_defs.specs.Tokens.{Token}
+use Rattle.si_defs.specs.Tokens.{Token, mark}
 use Rattle.si_defs.specs.Grammar.{IsTerm, IsAtom, IsLiteral, IsHead}
 use Rattle.si_defs.specs.declared.SymKind.{SymKind}
 use Rattle.si_defs.specs.declared.Side.TheVariants.{Predicate}
 use Rattle.si_defs.specs.declared.TokenKind.{TokenKind}
+use Rattle.si_defs.specs.declared.TokenKind.TheVariants.{NotEqual}
 use Rattle.si_defs.specs.declared.TheConstants.{MOST_BYTES}
-use Rattle.si_lex.specs.Lexemes.{tokens_of}
+use Rattle.si_lex.specs.Lexemes.{token_of, tokens_of}
 use Rattle.si_lex.specs.declared.lexeme.Lexeme.{Lexeme}
 use Rattle.si_parse.specs.GrammarRules.{AreTerms, IsApplied, IsNegated, IsStatement, as_atom, function_symbol}
-use Rattle.si_parse.specs.Parsing.{ReadsTokens, NoBracket, NoSign, NoTerm}
+use Rattle.si_parse.specs.Parsing.{ReadsTokens, NoBracket, NoEquation, NoTerm}
 use Rattle.si_parse.specs.Reading.{IsWholePattern}
 use Rattle.si_parse.specs.declared.pattern.PatternKind.{PatternKind}
 use Rattle.si_parse.specs.declared.pattern.PatternKind.TheVariants.{Lit, Term}
@@ -97,12 +99,20 @@ pub record IsHeadKind (kind : TokenKind) (symbol : SymKind) : Type 0 where
       ≡ Some (terms.app (record { kind = symbol; text = text; side = Predicate; arity = arity }) us)
 
 -- ---- literals
+-- the token is `=`, or of the kind of `!=`
+abbrev pub MayBeEquationSign : Token → Type 0
+MayBeEquationSign t = (t ≡ mark 61) ⊎ (t.kind ≡ NotEqual)
+
+-- none of these tokens is such a sign
+abbrev pub HasNoEquationSign : List Lexeme → Type 0
+HasNoEquationSign tokens = AllByRecursion (λ l. MayBeEquationSign (token_of l) → ⊥) tokens
+
 -- what has this meaning was read, and its atom was written as that of a literal with its sign
 pub record ReadsSigned {M : Type 0} (Means : M → List Token → Type 0) (positive : M → Bool)
     (atom : M → clauses.Term) (pairs : Numbering) (tokens : List Lexeme) (old new : WalkState)
     (rest : List Lexeme) : Type 0 where
   pub meant : M
-  pub read : ReadsTokens Means NoSign (tokens_of tokens) (Some (meant, tokens_of rest))
+  pub read : ReadsTokens Means NoEquation (tokens_of tokens) (Some (meant, tokens_of rest))
   pub flat : Flattens pairs (entry_scheme Query (positive meant)) old new (term_piece (atom meant))
 
 abbrev pub ReadsLiteral : Numbering → List Lexeme → WalkState → WalkState → List Lexeme → Type 0
@@ -123,7 +133,7 @@ statement equal m = record { positive = equal; atom = m }
 pub record ReadsStatement (pairs : Numbering) (equal positive : Bool) (tokens : List Lexeme)
     (old new : WalkState) (rest : List Lexeme) : Type 0 where
   pub atom : clauses.Term
-  pub read : ReadsTokens IsStatement NoSign (tokens_of tokens)
+  pub read : ReadsTokens IsStatement NoEquation (tokens_of tokens)
       (Some (statement equal atom, tokens_of rest))
   pub flat : Flattens pairs (entry_scheme Query positive) old new (term_piece atom)
 

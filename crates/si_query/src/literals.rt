@@ -1,12 +1,13 @@
 // Literals at the front of tokens, whose cells are written as they are read.
-ghost use Rattle.std.specs.Prelude.{◌≡◌, ◌&&◌, IfOk, IfSome, not, true};
-ghost use Rattle.si_query.specs.Reading.{HasNumbersFor, ReadsAtom, ReadsLiteral, ReadsNegated, ReadsStatement};
+ghost use Rattle.std.specs.Prelude.{◌≡◌, ◌↔◌, ◌&&◌, IfOk, IfSome, IsFalse, IsTrue, not, true};
+ghost use Rattle.si_lex.specs.Lexemes.{token_of};
+ghost use Rattle.si_query.specs.Reading.{HasNoEquationSign, HasNumbersFor, MayBeEquationSign, ReadsAtom, ReadsLiteral, ReadsNegated, ReadsStatement};
 
 use crate::terms::{applied, head_kind, term};
 use si_defs::{Side, SymKind, TokenKind};
 use si_flat::QueryWriter;
 use si_lex::Lexeme;
-use si_parse::grammar::{mark_at, sign};
+use si_parse::grammar::{equation_sign, mark_at};
 use si_term::{Sym, SymTable, Text};
 use std::alloc::{AllocError, Global};
 
@@ -82,7 +83,7 @@ fn statement<'t, 'b, T: SymTable>(
     ensures { IfOk result (λ read. IfSome read (λ r. ReadsStatement (T.pairs table.now) r.0
         (r.0 && not denied) tokens.now writer.old writer.new r.1.now)) }
 {
-    if has_sign(tokens) {
+    if has_equation_sign(tokens) {
         return equation(alloc, table, denied, tokens, writer);
     }
     match predicate(alloc, table, !denied, tokens, writer)? {
@@ -91,14 +92,18 @@ fn statement<'t, 'b, T: SymTable>(
     }
 }
 
-/// Whether a token is the sign of an equation, or of its negation.
-fn has_sign(tokens: &[Lexeme<'_>]) -> bool {
-    for token in tokens {
-        if token.kind == TokenKind::NotEqual || token.is_mark(b'=') {
-            return true;
-        }
-    }
-    false
+/// Whether one of these tokens is the sign of an equation, or of its negation.
+fn has_equation_sign(tokens: &[Lexeme<'_>]) -> bool
+    ensures { IsFalse result ↔ HasNoEquationSign tokens.now }
+{
+    tokens.iter().any(|token| may_be_equation_sign(token))
+}
+
+/// Whether a token is `=`, or of the kind of `!=`.
+fn may_be_equation_sign(token: &Lexeme<'_>) -> bool
+    ensures { IsTrue result ↔ MayBeEquationSign (token_of token.now) }
+{
+    token.kind == TokenKind::NotEqual || token.is_mark(b'=')
 }
 
 /// Two terms with a sign between them, and the tokens after them.
@@ -117,7 +122,7 @@ fn equation<'t, 'b, T: SymTable>(
     let Some(after) = term(alloc, table, tokens, writer)? else {
         return Ok(None);
     };
-    let Some((equal, next)) = sign(after) else {
+    let Some((equal, next)) = equation_sign(after) else {
         return Ok(None);
     };
     let Some(rest) = term(alloc, table, next, writer)? else {
@@ -164,7 +169,7 @@ fn predicate<'t, 'b, T: SymTable>(
     let Some((arity, rest)) = applied(alloc, table, after, writer)? else {
         return Ok(None);
     };
-    if sign(rest).is_some() {
+    if equation_sign(rest).is_some() {
         return Ok(None);
     }
     let symbol = Sym {

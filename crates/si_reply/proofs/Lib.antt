@@ -1,5 +1,5 @@
 pub mod Writing
 pub mod Pieces
 pub mod Escapes
-pub mod Naming
+pub mod NamingLaws
 pub mod ShownLists

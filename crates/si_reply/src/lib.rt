@@ -11,4 +11,4 @@ pub use names::NameList;
 pub use printing::{
     put_bytes, put_file, put_map, put_name, put_number, put_place, put_quoted, put_symbol, put_term,
 };
-pub use solution::put_solution;
+pub use solution::{Naming, put_solution};

@@ -10,7 +10,7 @@ ghost use Rattle.si_io.specs.Sends.{Sends};
 ghost use Rattle.si_term.specs.Terms.{symbol_of};
 ghost use Rattle.si_flat.specs.Cells.{IsWhole};
 ghost use Rattle.si_reply.specs.PrintedParts.{arguments_text, binding_text, bindings_text};
-ghost use Rattle.si_reply.specs.NamedLists.{naming, ShowsTerm, ShowAll, ShowsVariable, ShowsSymbol, ShowsBinding, ShowsList};
+ghost use Rattle.si_reply.specs.NamedLists.{ShowsTerm, ShowAll, ShowsVariable, ShowsSymbol, ShowsBinding, ShowsList};
 
 use crate::names::NameList;
 use crate::printing::{put_bytes, put_symbol};
@@ -23,70 +23,57 @@ use std::marker::Model;
 /// What stands for the numbers: the symbols of a table, those that it lacks, and the names of
 /// variables.
 #[derive(Drop)]
-struct Words<'a, T: SymTable, N: NameList> {
-    table: &'a T,
-    extra: &'a Syms,
-    query_names: &'a Texts,
-    entry_names: &'a N,
+pub struct Naming<'a, T: SymTable, N: NameList> {
+    pub table: &'a T,
+    pub extra: &'a Syms,
+    pub query_names: &'a Texts,
+    pub entry_names: &'a N,
 }
 
-impl<'a, T: SymTable, N: NameList> Model for Words<'a, T, N> {
+impl<'a, T: SymTable, N: NameList> Model for Naming<'a, T, N> {
     ghost use Rattle.si_reply.specs.NamedLists as named;
     ghost use Rattle.si_reply.specs.NamedLists.{naming};
 
     ghost Value = { named.Naming };
 
-    ghost view = { λ w.
-        naming (T.pairs w.table.now) w.extra.now w.query_names.now (N.names w.entry_names.now) };
+    ghost view = { λ n.
+        naming (T.pairs n.table.now) n.extra.now n.query_names.now (N.names n.entry_names.now) };
 }
 
 /// Writes a solution list. Each of its numbers has to stand for a symbol of the table or an extra
 /// one, or for a name. A term is written by recursion over its nesting.
 pub fn put_solution<K: Sink, T: SymTable, N: NameList>(
     sink: &mut K,
+    naming: &Naming<'_, T, N>,
     solution: &Solution,
-    table: &T,
-    extra: &Syms,
-    query_names: &Texts,
-    entry_names: &N,
 ) -> Result<(), Failed>
-    requires known { (list : variables.Solution) × ShowsList
-        (naming (T.pairs table.now) extra.now query_names.now (N.names entry_names.now))
-        solution.now list }
-    ensures { (list : variables.Solution)
-        → ShowsList (naming (T.pairs table.now) extra.now query_names.now (N.names entry_names.now))
-        solution.now list
+    requires known { (list : variables.Solution) × ShowsList naming.now solution.now list }
+    ensures { (list : variables.Solution) → ShowsList naming.now solution.now list
         → Sends result (solution_text variable_text list) (K.shown sink.old)
         (K.shown sink.new) }
 {
-    let words = Words {
-        table,
-        extra,
-        query_names,
-        entry_names,
-    };
     put_bytes(sink, b"{")?;
-    put_bindings(sink, &words, solution)?;
+    put_bindings(sink, naming, solution)?;
     put_bytes(sink, b"}")
 }
 
 /// Writes the bindings with semicolons between them.
 fn put_bindings<K: Sink, T: SymTable, N: NameList>(
     sink: &mut K,
-    words: &Words<'_, T, N>,
+    naming: &Naming<'_, T, N>,
     solution: &Solution,
 ) -> Result<(), Failed>
-    requires known { (list : variables.Solution) × ShowsList words.now solution.now list }
-    ensures { (list : variables.Solution) → ShowsList words.now solution.now list
+    requires known { (list : variables.Solution) × ShowsList naming.now solution.now list }
+    ensures { (list : variables.Solution) → ShowsList naming.now solution.now list
         → Sends result (bindings_text list) (K.shown sink.old) (K.shown sink.new) }
 {
     if solution.len() == 0 {
         return Ok(());
     }
-    put_binding(sink, words, solution.at(0))?;
+    put_binding(sink, naming, solution.at(0))?;
     for n in 1..solution.len() {
         put_bytes(sink, b"; ")?;
-        put_binding(sink, words, solution.at(n))?;
+        put_binding(sink, naming, solution.at(n))?;
     }
     Ok(())
 }
@@ -94,47 +81,47 @@ fn put_bindings<K: Sink, T: SymTable, N: NameList>(
 /// Writes a variable and its term.
 fn put_binding<K: Sink, T: SymTable, N: NameList>(
     sink: &mut K,
-    words: &Words<'_, T, N>,
+    naming: &Naming<'_, T, N>,
     binding: &Binding,
 ) -> Result<(), Failed>
-    requires known { (b : variables.Variable × Apart) × ShowsBinding words.now binding.now b }
-    ensures { (b : variables.Variable × Apart) → ShowsBinding words.now binding.now b
+    requires known { (b : variables.Variable × Apart) × ShowsBinding naming.now binding.now b }
+    ensures { (b : variables.Variable × Apart) → ShowsBinding naming.now binding.now b
         → Sends result (binding_text b) (K.shown sink.old) (K.shown sink.new) }
 {
-    put_variable(sink, words, binding.owner, binding.slot)?;
+    put_variable(sink, naming, binding.owner, binding.slot)?;
     put_bytes(sink, b" -> ")?;
-    put_flat(sink, words, binding.value.cells())
+    put_flat(sink, naming, binding.value.cells())
 }
 
 /// Writes a variable of the pattern or of the entry.
 fn put_variable<K: Sink, T: SymTable, N: NameList>(
     sink: &mut K,
-    words: &Words<'_, T, N>,
+    naming: &Naming<'_, T, N>,
     owner: Owner,
     slot: u32,
 ) -> Result<(), Failed>
-    requires known { (x : variables.Variable) × ShowsVariable words.now owner slot x }
-    ensures { (x : variables.Variable) → ShowsVariable words.now owner slot x
+    requires known { (x : variables.Variable) × ShowsVariable naming.now owner slot x }
+    ensures { (x : variables.Variable) → ShowsVariable naming.now owner slot x
         → Sends result (variable_text x) (K.shown sink.old) (K.shown sink.new) }
 {
     match owner {
         Owner::Query => {
             put_bytes(sink, b"?")?;
-            put_bytes(sink, words.query_names.at(slot as usize).as_bytes())
+            put_bytes(sink, naming.query_names.at(slot as usize).as_bytes())
         }
-        Owner::Entry => put_bytes(sink, words.entry_names.name(slot as usize)),
+        Owner::Entry => put_bytes(sink, naming.entry_names.name(slot as usize)),
     }
 }
 
 /// The symbol with this number.
-fn symbol_at<'a, T: SymTable, N: NameList>(words: &Words<'a, T, N>, number: u32) -> &'a Sym
-    requires known { (s : symbols.Symbol) × ShowsSymbol words.now number s }
-    ensures { (s : symbols.Symbol) → ShowsSymbol words.now number s
+fn symbol_at<'a, T: SymTable, N: NameList>(naming: &Naming<'a, T, N>, number: u32) -> &'a Sym
+    requires known { (s : symbols.Symbol) × ShowsSymbol naming.now number s }
+    ensures { (s : symbols.Symbol) → ShowsSymbol naming.now number s
         → symbol_of result.now ≡ s }
 {
-    match words.table.sym_at(number) {
+    match naming.table.sym_at(number) {
         Some(symbol) => symbol,
-        None => words.extra.at((number - FIRST_EXTRA) as usize / 2),
+        None => naming.extra.at((number - FIRST_EXTRA) as usize / 2),
     }
 }
 
@@ -142,20 +129,20 @@ fn symbol_at<'a, T: SymTable, N: NameList>(words: &Words<'a, T, N>, number: u32)
 #[cycle(put_terms)]
 fn put_flat<K: Sink, T: SymTable, N: NameList>(
     sink: &mut K,
-    words: &Words<'_, T, N>,
+    naming: &Naming<'_, T, N>,
     cells: &[Cell],
 ) -> Result<(), Failed>
-    requires known { (t : Apart) × ShowsTerm words.now cells.now t }
-    ensures { (t : Apart) → ShowsTerm words.now cells.now t
+    requires known { (t : Apart) × ShowsTerm naming.now cells.now t }
+    ensures { (t : Apart) → ShowsTerm naming.now cells.now t
         → Sends result (term_text variable_text t) (K.shown sink.old) (K.shown sink.new) }
 {
     match cells[0] {
         Cell::App { sym, .. } => {
-            put_symbol(sink, symbol_at(words, sym))?;
-            put_flat_arguments(sink, words, &cells[1..])
+            put_symbol(sink, symbol_at(naming, sym))?;
+            put_flat_arguments(sink, naming, &cells[1..])
         }
-        Cell::Query(number) => put_variable(sink, words, Owner::Query, number),
-        Cell::Entry(number) => put_variable(sink, words, Owner::Entry, number),
+        Cell::Query(number) => put_variable(sink, naming, Owner::Query, number),
+        Cell::Entry(number) => put_variable(sink, naming, Owner::Entry, number),
         Cell::Ind(_) => unreachable!(),
     }
 }
@@ -164,13 +151,13 @@ fn put_flat<K: Sink, T: SymTable, N: NameList>(
 #[cycle(put_terms)]
 fn put_flat_arguments<K: Sink, T: SymTable, N: NameList>(
     sink: &mut K,
-    words: &Words<'_, T, N>,
+    naming: &Naming<'_, T, N>,
     cells: &[Cell],
 ) -> Result<(), Failed>
     requires known { (ts : terms.Terms symbols.Symbol variables.Variable)
-        × ShowAll words.now cells.now ts }
+        × ShowAll naming.now cells.now ts }
     ensures { (ts : terms.Terms symbols.Symbol variables.Variable)
-        → ShowAll words.now cells.now ts
+        → ShowAll naming.now cells.now ts
         → Sends result (arguments_text variable_text ts) (K.shown sink.old)
         (K.shown sink.new) }
 {
@@ -179,8 +166,8 @@ fn put_flat_arguments<K: Sink, T: SymTable, N: NameList>(
     }
     let (first, others) = cells.split_at(cells[0].span());
     put_bytes(sink, b"(")?;
-    put_flat(sink, words, first)?;
-    put_flat_others(sink, words, others)?;
+    put_flat(sink, naming, first)?;
+    put_flat_others(sink, naming, others)?;
     put_bytes(sink, b")")
 }
 
@@ -188,20 +175,20 @@ fn put_flat_arguments<K: Sink, T: SymTable, N: NameList>(
 #[cycle(put_terms)]
 fn put_flat_others<'a, K: Sink, T: SymTable, N: NameList>(
     sink: &mut K,
-    words: &Words<'_, T, N>,
+    naming: &Naming<'_, T, N>,
     cells: &'a [Cell],
 ) -> Result<(), Failed>
     requires known { (ts : terms.Terms symbols.Symbol variables.Variable)
-        × ShowAll words.now cells.now ts }
+        × ShowAll naming.now cells.now ts }
     ensures { (ts : terms.Terms symbols.Symbol variables.Variable)
-        → ShowAll words.now cells.now ts
+        → ShowAll naming.now cells.now ts
         → Sends result (more_texts variable_text ts) (K.shown sink.old) (K.shown sink.new) }
 {
     let mut rest = cells;
     while !rest.is_empty() {
         let (first, others) = rest.split_at(rest[0].span());
         put_bytes(sink, b",")?;
-        put_flat(sink, words, first)?;
+        put_flat(sink, naming, first)?;
         rest = others;
     }
     Ok(())

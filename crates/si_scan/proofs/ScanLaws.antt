@@ -8,7 +8,8 @@ use Rattle.si_defs.specs.Clauses.{Term, Literal, Clause}
 use Rattle.si_defs.specs.Entries.{Entry, literal_entry, term_entry}
 use Rattle.si_term.specs.Terms.{symbol_of, term_of}
 use Rattle.si_term.specs.Meaning.{literal_of, clause_of}
-use Rattle.si_term.specs.Walks.{subterms, subterms_of_all, arguments, entries_alone}
+use Rattle.si_defs.specs.Terms.{arguments}
+use Rattle.si_term.specs.Walks.{subterms, subterms_of_all, entries_alone}
 use Rattle.si_term.specs.declared.term.Sym as symbol
 use Rattle.si_term.specs.declared.term.Term as program
 use Rattle.si_term.specs.declared.term.Term.TheVariants.{App}

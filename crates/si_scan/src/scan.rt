@@ -1,11 +1,11 @@
 // The scan: all entries are tried in order, and the postings of the answers are gathered.
 ghost use Rattle.std.specs.Prelude.{◌≡◌, ◌+◌, ◌≤◌, [], ◌∷◌, ◌++◌, IfOk, OnOk, length, map};
-ghost use Rattle.si_defs.specs.Terms.{row};
+ghost use Rattle.si_defs.specs.Terms.{row, arguments};
 ghost use Rattle.si_defs.specs.Entries.{literal_entry, term_entry};
 ghost use Rattle.si_defs.specs.declared.TheConstants.{MOST_OCCURRENCES};
 ghost use Rattle.si_term.specs.Terms.{term_of};
 ghost use Rattle.si_term.specs.Meaning.{literal_of, clause_of, entry_of};
-ghost use Rattle.si_term.specs.Walks.{subterms, subterms_of_all, arguments, entries_alone};
+ghost use Rattle.si_term.specs.Walks.{subterms, subterms_of_all, entries_alone};
 ghost use Rattle.si_index.specs.Kept.{kept_clauses};
 ghost use Rattle.si_index.specs.Searching.{IsKnownTerm, AreKnownTerms, IsKnownEntry, IsKnownClause};
 ghost use Rattle.si_scan.specs.Scans.{IsReady, IsOver, Wants, numbers_of, posted, all_posted, AreOfWanted, Adds};

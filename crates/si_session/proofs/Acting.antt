@@ -24,12 +24,11 @@ use Rattle.si_steps.specs.Loads.{Owed, nothing, PerformsLoad, gained_line, load_
 use Rattle.si_steps.specs.Steps.{Performs, IsNoCommand, RightStep, right, long, memory_at_once, memory_behind, performed, loaded}
 use Rattle.si_steps.specs.FileWords.{names_file, nameless, named, right_word, no_memory}
 use Rattle.si_steps.specs.Runs.{a_line, a_word, ended}
-use Rattle.si_io.specs.Shown.{SinkShown, LibraryShown}
+use Rattle.si_io.specs.Shown.{SinkShown, LibraryShown, KeepsFiles}
 use Rattle.si_io.specs.Counts.{raised}
 use Rattle.si_io.specs.Sends.{SendsAll, SendsPart}
 use Rattle.si_session.specs.Commands.{IsPerformed}
 use Rattle.si_term.specs.Meaning.{clause_of}
-use Rattle.si_term.proofs.EntryHeads.{length-symbols, symbol_placed}
 use Rattle.si_sign.specs.Shapes.{shape_of}
 use Rattle.si_sign.specs.Stores.{Rejects}
 use Rattle.si_sign.specs.declared.faults.Rejected.{Rejected}
@@ -42,15 +41,16 @@ use Rattle.si_tree.specs.declared.node.Counts as node_counts
 use Rattle.si_tree.specs.Reading.{counts_of}
 use Rattle.si_legal.specs.Counts.{node_count}
 use Rattle.si_held.specs.Queries.{asked_tree}
-use Rattle.si_session.specs.Explained.{TellsExplained}
+use Rattle.si_session.specs.Explained.{ReportsExplained}
 use Rattle.si_session.proofs.Standing.{hits_standing}
 use Rattle.si_session.specs.declared.reply.ReplyLine as reply
 use Rattle.si_session.specs.Replies.{reply_line, misused_text, counts_text, counts_reply}
-use Rattle.si_session.specs.Rejections.{HasHead, NamesEntry, TellsFault, TellsWhy}
+use Rattle.si_session.specs.Rejections.{IsReportableClause, NamesOccurrence, ReportsFault, ReportsWhy}
 use Rattle.si_session.specs.ShownTrees.{nodes_of, Asks, ShowsTrees}
-use Rattle.si_session.specs.Session.{Around, around, KeepsFiles, CountsSinkFault, Steps, HoldsTrees, GoesByTrees, ChangesKept, Writes, HasPerformed, ActsOn, rightly, at_once, behind, HasLoaded, LoadsInto, rightly_loaded, ran_out, view_of, holding}
+use Rattle.si_session.specs.Session.{Around, around, CountsSinkFault, Steps, HoldsTrees, GoesByTrees, ChangesKept, Writes, HasPerformed, ActsOn, rightly, at_once, behind, HasLoaded, LoadsInto, rightly_loaded, ran_out, view_of, holding}
 use Rattle.si_session.specs.declared.stepped.Stepped.{Stepped}
-use Rattle.si_session.proofs.Owing.{counts_nothing, same_files}
+use Rattle.si_io.proofs.Fetching.{same_files}
+use Rattle.si_session.proofs.Owing.{counts_nothing}
 use Rattle.si_session.specs.declared.stepped.Stepped.TheVariants.{Answered, Refused, Silent, SinkFailed}
 
 -- ---- the sink's count of faults
@@ -98,35 +98,34 @@ at_seam before after own s n e h =
     subst (λ l. slice_get l n ≡ Some s) (sym e) (subst (λ k. slice_get (before ++ s ∷ after) k ≡ Some s) (sym h) (get_here before s after))
 
 -- it isn't kept
-fault_acts : (old new : Kept) (r : Rejected) (told : reply.ReplyLine) (o : Stepped) (a b : SinkShown) (why : AddFault)
-    → IsSoundClause (clause_of r.clause) → Rejects old.rules old.clauses (clause_of r.clause) why → TellsFault r told why → new.clauses ≡ old.clauses → Writes o (reply_line told ∷ []) a b
+fault_acts : (old new : Kept) (r : Rejected) (reported : reply.ReplyLine) (o : Stepped) (a b : SinkShown) (why : AddFault)
+    → Rejects old.rules old.clauses (clause_of r.clause) why → ReportsFault r reported why → new.clauses ≡ old.clauses → Writes o (reply_line reported ∷ []) a b
     → ActsOn (add (clause_of r.clause)) old new o a b
-fault_acts old new r told o a b add_fault.Taken sound h t e w setting state =
-    rightly (reply_line told ∷ []) (inl (taken, h, ap (λ l. l ∷ []) t, holds_same old new state e)) w
-fault_acts old new r told o a b (add_fault.Clash c) sound h t e w setting state =
+fault_acts old new r reported o a b add_fault.Taken h t e w setting state =
+    rightly (reply_line reported ∷ []) (inl (taken, h, ap (λ l. l ∷ []) t, holds_same old new state e)) w
+fault_acts old new r reported o a b (add_fault.Clash c) h t e w setting state =
     let clash = h.2.1 in
-    let there : slice_get (clause_symbols (clause_of r.clause)) c.entry ≡ Some h.0 = at_seam clash.before clash.after _ h.0 c.entry clash.splits clash.position in
-    let placed = symbol_placed (clause_of r.clause) sound c.entry h.0 there in
+    let there : slice_get (clause_symbols (clause_of r.clause)) c.occurrence ≡ Some h.0 = at_seam clash.before clash.after _ h.0 c.occurrence clash.splits clash.position in
     let same : misused_text h.0 c.found c.kept ≡ misused_line h.0 h.1 =
     ap (λ shape. misused_text h.0 shape c.kept) h.3.0 ∙ ap (λ shape. misused_text h.0 (shape_of h.0) shape) h.3.1 in
-    rightly (reply_line told ∷ []) (inl (misused c.entry h.0 h.1, h.2, ap (λ l. l ∷ []) (t h.0 placed ∙ same), holds_same old new state e)) w
-fault_acts old new r told o a b (add_fault.Full needed most) sound h t e w setting state =
-    rightly (reply_line told ∷ []) (inl (full needed, h.0, ap (λ l. l ∷ []) (t ∙ ap (full_line needed) h.1), holds_same old new state e)) w
-fault_acts old new r told o a b add_fault.Memory sound h t e w setting state = at_once (holds_same old new state e) (subst (λ l. Writes o (l ∷ []) a b) t w)
+    rightly (reply_line reported ∷ []) (inl (misused c.occurrence h.0 h.1, h.2, ap (λ l. l ∷ []) (t h.0 there ∙ same), holds_same old new state e)) w
+fault_acts old new r reported o a b (add_fault.Full needed most) h t e w setting state =
+    rightly (reply_line reported ∷ []) (inl (full needed, h.0, ap (λ l. l ∷ []) (t ∙ ap (full_line needed) h.1), holds_same old new state e)) w
+fault_acts old new r reported o a b add_fault.Memory h t e w setting state = at_once (holds_same old new state e) (subst (λ l. Writes o (l ∷ []) a b) t w)
 
-pub refused : (old new : Kept) (r : Rejected) (told : reply.ReplyLine) (o : Stepped) (a b : SinkShown)
-    → IsSoundClause (clause_of r.clause) → Rejects old.rules old.clauses (clause_of r.clause) r.why → TellsWhy r told → new.clauses ≡ old.clauses → Writes o (reply_line told ∷ []) a b
+pub refused : (old new : Kept) (r : Rejected) (reported : reply.ReplyLine) (o : Stepped) (a b : SinkShown)
+    → Rejects old.rules old.clauses (clause_of r.clause) r.why → ReportsWhy r reported → new.clauses ≡ old.clauses → Writes o (reply_line reported ∷ []) a b
     → ActsOn (add (clause_of r.clause)) old new o a b
-refused old new r told o a b sound h t e w = fault_acts old new r told o a b r.why sound h t e w
+refused old new r reported o a b h t e w = fault_acts old new r reported o a b r.why h t e w
 
--- the clash is named at an entry
-pub has_head : (rules : Rules) (clauses : List Clause) (r : Rejected) → IsSoundClause (clause_of r.clause) → Rejects rules clauses (clause_of r.clause) r.why → HasHead r
-has_head rules clauses r sound h = (sound, by r.why h) where
-  by : (why : AddFault) → Rejects rules clauses (clause_of r.clause) why → NamesEntry r why
+-- the clash is named at an occurrence
+pub is_reportable : (rules : Rules) (clauses : List Clause) (r : Rejected) → IsSoundClause (clause_of r.clause) → Rejects rules clauses (clause_of r.clause) r.why → IsReportableClause r
+is_reportable rules clauses r sound h = (sound, by r.why h) where
+  by : (why : AddFault) → Rejects rules clauses (clause_of r.clause) why → NamesOccurrence r why
   by add_fault.Taken h = tt
   by (add_fault.Clash c) h =
       let clash = h.2.1 in
-      omega (arith, length-symbols (clause_of r.clause) sound, clash.position, ap length clash.splits, length-append clash.before (h.0 ∷ clash.after))
+      omega (arith, clash.position, ap length clash.splits, length-append clash.before (h.0 ∷ clash.after))
   by (add_fault.Full n most) h = tt
   by add_fault.Memory h = tt
 
@@ -140,11 +139,11 @@ pub unknown : (old new : Kept) (name : Name) (o : Stepped) (a b : SinkShown) →
 unknown old new name o a b h e w setting state = rightly (unknown_line name ∷ []) (inl (h, refl, holds_same old new state e)) w
 
 -- ---- counts
-pub counts : (index : Kept) (told : Stats) (o : Stepped) (a b : SinkShown) → told.clauses ≡ length index.clauses → told.entries ≡ length (state_entries index.clauses)
-    → CountsSymbols index.clauses told.symbols → Writes o (stats_line told.clauses told.entries told.symbols ∷ []) a b → ActsOn stats index index o a b
-counts index told o a b clauses entries symbols w setting state =
-    rightly (stats_line told.clauses told.entries told.symbols ∷ [])
-    (told.symbols, symbols, ap (λ n. stats_line n told.entries told.symbols ∷ []) clauses ∙ ap (λ n. stats_line (length index.clauses) n told.symbols ∷ []) entries, refl) w
+pub counts : (index : Kept) (reported : Stats) (o : Stepped) (a b : SinkShown) → reported.clauses ≡ length index.clauses → reported.entries ≡ length (state_entries index.clauses)
+    → CountsSymbols index.clauses reported.symbols → Writes o (stats_line reported.clauses reported.entries reported.symbols ∷ []) a b → ActsOn stats index index o a b
+counts index reported o a b clauses entries symbols w setting state =
+    rightly (stats_line reported.clauses reported.entries reported.symbols ∷ [])
+    (reported.symbols, symbols, ap (λ n. stats_line n reported.entries reported.symbols ∷ []) clauses ∙ ap (λ n. stats_line (length index.clauses) n reported.symbols ∷ []) entries, refl) w
 
 -- ---- the step
 -- no command has an empty reply
@@ -336,7 +335,7 @@ trees_stepped limits library index line shown o a b held short performs literals
 
 -- what a query passes
 pub explain_stepped : (limits : Limits) (library : LibraryShown) (index : Kept) (line : Bytes) (relation : Relation) (p : Pattern) (o : Stepped) (a b : SinkShown)
-    → HoldsTrees (view_of limits index) → IsShort limits line → IsPerformed (explain relation p) line → TellsExplained index relation p o a b
+    → HoldsTrees (view_of limits index) → IsShort limits line → IsPerformed (explain relation p) line → ReportsExplained index relation p o a b
     → Steps (view_of limits index) (view_of limits index) (a_line line) o (around a library) (around b library)
 explain_stepped limits library index line relation p o a b held short performs (inl (e, explains, w)) =
     let same : explain_line e.passed e.nodes e.answers ∷ [] ≡ explain_line e.passed (node_count (asked_tree p index.trees)) e.answers ∷ [] =

@@ -1,7 +1,8 @@
 -- What is found, with its lists, is the answer; and its lines, written one after the other.
 use Rattle.std.proofs.Common.{◌≡◌, inl, inr, ℕ, zero, suc, ◌+◌, ◌<◌, ◌≤◌, List, [], ◌∷◌, ◌++◌, length, map, Some, refl, sym, ◌∙◌, ap, subst, arith, append_assoc, length-append}
 use Rattle.std.specs.Prelude.{Result, slice_get}
-use Rattle.std.specs.List.{AllByRecursion, concat}
+use Rattle.std.specs.List.{AllByRecursion, AllZip, concat, range_with_len}
+use Rattle.std.proofs.lemmas.Slice.Zip.{AllZip-long}
 use Rattle.si_defs.specs.Clauses.{Name, Clause, Pattern}
 use Rattle.si_defs.specs.Printing.{place_text, solution_text}
 use Rattle.si_reply.proofs.Pieces.{four_apart}
@@ -17,38 +18,45 @@ use Rattle.si_steps.specs.Replies.{end_line, answer_reply}
 use Rattle.si_steps.specs.Runs.{ended}
 use Rattle.si_io.specs.Shown.{SinkShown}
 use Rattle.si_io.specs.Sends.{Sends}
-use Rattle.si_io.specs.Lines.{AreTexts, HaveTexts, WritesLines}
+use Rattle.si_io.specs.Lines.{HaveTexts, WritesLines}
 use Rattle.si_io.specs.declared.failed.Failed.{Failed}
 use Rattle.si_defs.proofs.ListLaws.{all_got, get_some, get_here}
 use Rattle.si_index.specs.Kept.{Kept}
 use Rattle.si_index.specs.Searching.{HasSolution}
 use Rattle.si_index.specs.Finding.{Finding, AreHits, at_position, entries_from_position, position_and_place}
-use Rattle.si_session.specs.Answering.{IsHitOf, AreHitsOf, IsInside, IsHitLine, TellsAnswer, hit_line}
-use Rattle.si_session.proofs.Told.{ended-append}
+use Rattle.si_session.specs.Answering.{IsHitOf, IsInside, IsHitLine, ReportsAnswer, hit_line}
+use Rattle.si_session.proofs.EndedLines.{ended-append}
 
 abbrev Found : Type 0
 Found = List (ℕ × Placed)
 
 module _ (relation : Relation) (p : Pattern) (clauses : List Clause) where
+  abbrev HaveHits : Found → List Hit → Type 0
+  HaveHits = AllZip (IsHitOf relation p clauses)
+
   -- what is found in one clause, and then in others
   of_clause : (k : ℕ) (c : Clause) → slice_get clauses k ≡ Some c → (es : List Placed) (rest : Found) (others : List (Clause × Placed))
-      → ((fs : Found) (hits : List Hit) → AreHits relation p rest fs → AreHitsOf relation p clauses fs hits → IsAnswer relation p others hits)
-      → (fs : Found) (hits : List Hit) → AreHits relation p (map (at_position k) es ++ rest) fs → AreHitsOf relation p clauses fs hits
+      → ((fs : Found) (hits : List Hit) → AreHits relation p rest fs → HaveHits fs hits → IsAnswer relation p others hits)
+      → (fs : Found) (hits : List Hit) → AreHits relation p (map (at_position k) es ++ rest) fs → HaveHits fs hits
       → IsAnswer relation p (map (placed_in c) es ++ others) hits
   of_clause k c there [] rest others more fs hits h g = more fs hits h g
   of_clause k c there (e ∷ es) rest others more fs hits (inr h) g = inr (h.0, of_clause k c there es rest others more fs hits h.1 g)
-  of_clause k c there (e ∷ es) rest others more fs hits (inl h) g =
-      let found = subst (λ l. AreHitsOf relation p clauses l hits) h.1.2 g in
-      let hit = found.0 in
-      let of = found.2 in
+  of_clause k c there (e ∷ es) rest others more fs [] (inl h) g = absurd (subst (λ l. HaveHits l []) h.1.2 g)
+  of_clause k c there (e ∷ es) rest others more fs (hit ∷ hits) (inl h) g =
+      let found = subst (λ l. HaveHits l (hit ∷ hits)) h.1.2 g in
+      let of = found.0 in
       let same : hit.clause ≡ c = (let both : Some hit.clause ≡ Some c = sym of.clause ∙ there in cc) in
       let is : hit ≡ record { clause = c; placed = e; solution = hit.solution } =
       λ i. record { clause = same i; placed = of.placed i; solution = hit.solution } in
-      inl (h.0, (hit.solution, found.1, of.solves, of_clause k c there es rest others more h.1.0 found.1 h.1.1 found.3, found.4 ∙ ap (λ x. x ∷ found.1) is))
+      inl (h.0, (hit.solution, hits, of.solves, of_clause k c there es rest others more h.1.0 hits h.1.1 found.1, ap (λ x. x ∷ hits) is))
+
+  none_found : (hits : List Hit) → HaveHits [] hits → hits ≡ []
+  none_found [] g = refl
+  none_found (hit ∷ hits) g = absurd g
 
   of_all : (front back : List Clause) → clauses ≡ front ++ back → (fs : Found) (hits : List Hit)
-      → AreHits relation p (entries_from_position (length front) back) fs → AreHitsOf relation p clauses fs hits → IsAnswer relation p (state_entries back) hits
-  of_all front [] e fs hits h g = subst (λ l. AreHitsOf relation p clauses l hits) h g
+      → AreHits relation p (entries_from_position (length front) back) fs → HaveHits fs hits → IsAnswer relation p (state_entries back) hits
+  of_all front [] e fs hits h g = none_found hits (subst (λ l. HaveHits l hits) h g)
   of_all front (c ∷ back) e fs hits h g =
       let behind : 1 + length front ≡ length (front ++ c ∷ []) = omega (arith, length-append front (c ∷ [])) in
       of_clause (length front) c (subst (λ l. slice_get l (length front) ≡ Some c) (sym e) (get_here front c back)) (entries c)
@@ -89,23 +97,15 @@ module _ (relation : Relation) (p : Pattern) (clauses : List Clause) where
         (record { stands = stand.0; solution = list.0; solves = list.1 }, by fs stand.1)
 
   -- each of them has its hit
-  pub hits_of : (fs : Found) → AllByRecursion (IsInside clauses) fs → AllByRecursion (λ f. HasSolution relation p f.1.entry) fs → (hits : List Hit) × AreHitsOf relation p clauses fs hits
-  hits_of [] inside solved = ([], refl)
+  pub hits_of : (fs : Found) → AllByRecursion (IsInside clauses) fs → AllByRecursion (λ f. HasSolution relation p f.1.entry) fs → (hits : List Hit) × HaveHits fs hits
+  hits_of [] inside solved = ([], tt)
   hits_of (f ∷ fs) inside solved =
       let others = hits_of fs inside.1 solved.1 in
       let c = get_some clauses f.0 inside.0 in
       let hit : Hit = record { clause = c.0; placed = f.1; solution = solved.0.solution } in
-      (hit ∷ others.0, (hit, others.0, record { clause = c.1; placed = refl; solves = solved.0.solves }, others.1, refl))
+      (hit ∷ others.0, (record { clause = c.1; placed = refl; solves = solved.0.solves }, others.1))
 
-  pub hits-append : (fs gs : Found) (xs ys : List Hit) → AreHitsOf relation p clauses fs xs → AreHitsOf relation p clauses gs ys → AreHitsOf relation p clauses (fs ++ gs) (xs ++ ys)
-  hits-append [] gs xs ys h k = subst (λ l. AreHitsOf relation p clauses gs (l ++ ys)) (sym h) k
-  hits-append (f ∷ fs) gs xs ys h k = (h.0, h.1 ++ ys, h.2, hits-append fs gs h.1 ys h.3 k, ap (λ l. l ++ ys) h.4)
-
-  pub length-hits : (fs : Found) (hits : List Hit) → AreHitsOf relation p clauses fs hits → length fs ≡ length hits
-  length-hits [] hits h = ap length (sym h)
-  length-hits (f ∷ fs) hits h = omega (arith, length-hits fs h.1 h.3, ap length h.4)
-
-  pub is_answer : (fs : Found) (hits : List Hit) → AreHits relation p (entries_from_position 0 clauses) fs → AreHitsOf relation p clauses fs hits → IsAnswer relation p (state_entries clauses) hits
+  pub is_answer : (fs : Found) (hits : List Hit) → AreHits relation p (entries_from_position 0 clauses) fs → HaveHits fs hits → IsAnswer relation p (state_entries clauses) hits
   is_answer fs hits h g = of_all [] clauses refl fs hits h g
 
   -- the answer is no longer than what it is found among
@@ -129,30 +129,32 @@ module _ (f : Finding) where
       (ended (hit_text hit ∷ []), (x.0, hit, x.1, record { clause = c.1; placed = refl; solves = list.solves }, refl))
 
   -- and the texts of all lines are those of hits
-  texts_hits : (done rest : Found) → f.hits ≡ done ++ rest → (texts : List Bytes) → AreTexts (IsHitLine f) (length done) (length rest) texts
-      → (hits : List Hit) × AreHitsOf f.relation f.pattern f.index.clauses rest hits × (concat texts ≡ ended (hit_texts hits))
-  texts_hits done [] e texts h = ([], refl, ap concat h)
-  texts_hits done (x ∷ rest) e texts h =
-      let line = h.2 in
+  texts_hits : (done rest : Found) → f.hits ≡ done ++ rest → (texts : List Bytes) → AllZip (IsHitLine f) (range_with_len (length done) (length rest)) texts
+      → (hits : List Hit) × AllZip (IsHitOf f.relation f.pattern f.index.clauses) rest hits × (concat texts ≡ ended (hit_texts hits))
+  texts_hits done [] e [] h = ([], tt, refl)
+  texts_hits done [] e (text ∷ texts) h = absurd h
+  texts_hits done (x ∷ rest) e [] h = absurd h
+  texts_hits done (x ∷ rest) e (text ∷ texts) h =
+      let line = h.0 in
       let there : slice_get f.hits (length done) ≡ Some x = subst (λ (l : Found). slice_get l (length done) ≡ Some x) (sym e) (get_here done x rest) in
       let same : line.0 ≡ x = (let both : Some line.0 ≡ Some x = sym line.2 ∙ there in cc) in
-      let behind : suc (length done) ≡ length (done ++ x ∷ []) = omega (arith, length-append done (x ∷ [])) in
-      let others = texts_hits (done ++ x ∷ []) rest (e ∙ sym (append_assoc done (x ∷ []) rest)) h.1 (subst (λ (k : ℕ). AreTexts (IsHitLine f) k (length rest) h.1) behind h.3) in (
+      let behind : length done + 1 ≡ length (done ++ x ∷ []) = omega (arith, length-append done (x ∷ [])) in
+      let others = texts_hits (done ++ x ∷ []) rest (e ∙ sym (append_assoc done (x ∷ []) rest)) texts (subst (λ (k : ℕ). AllZip (IsHitLine f) (range_with_len k (length rest)) texts) behind h.1) in (
         line.1 ∷ others.0,
-        (line.1, others.0, subst (λ (y : ℕ × Placed). IsHitOf f.relation f.pattern f.index.clauses y line.1) same line.3, others.1, refl),
-        ap concat h.4 ∙ ap (λ (l : Bytes). l ++ concat h.1) line.4 ∙ ap (λ (l : Bytes). ended (hit_text line.1 ∷ []) ++ l) others.2 ∙ sym (ended-append (hit_text line.1 ∷ []) (hit_texts others.0)),
+        (subst (λ (y : ℕ × Placed). IsHitOf f.relation f.pattern f.index.clauses y line.1) same line.3, others.1),
+        ap (λ (l : Bytes). l ++ concat texts) line.4 ∙ ap (λ (l : Bytes). ended (hit_text line.1 ∷ []) ++ l) others.2 ∙ sym (ended-append (hit_text line.1 ∷ []) (hit_texts others.0)),
       )
 
   -- the whole answer
-  pub answer_told : (r : Result (Unit {0}) Failed) (a b : SinkShown) → WritesLines (IsHitLine f) (length f.hits) (end_line (length f.hits) ++ 10 ∷ []) r a b → TellsAnswer f r a b
-  answer_told r a b h =
-      let told = texts_hits [] f.hits refl h.0 h.1 in
-      let hits = told.0 in
+  pub answer_reported : (r : Result (Unit {0}) Failed) (a b : SinkShown) → WritesLines (IsHitLine f) (length f.hits) (end_line (length f.hits) ++ 10 ∷ []) r a b → ReportsAnswer f r a b
+  answer_reported r a b h =
+      let texts = texts_hits [] f.hits refl h.0 h.1 in
+      let hits = texts.0 in
       let last : List ℕ → ℕ → Bytes = λ front n. front ++ (end_line n ++ 10 ∷ []) in
       let whole : concat h.0 ++ (end_line (length f.hits) ++ 10 ∷ []) ≡ ended (answer_reply hits) =
-      ap (λ (l : Bytes). last l (length f.hits)) told.2 ∙ ap (last (ended (hit_texts hits))) (length-hits f.relation f.pattern f.index.clauses f.hits hits told.1)
+      ap (λ (l : Bytes). last l (length f.hits)) texts.2 ∙ ap (last (ended (hit_texts hits))) (sym (AllZip-long (IsHitOf f.relation f.pattern f.index.clauses) f.hits hits texts.1))
       ∙ sym (ended-append (hit_texts hits) (end_line (length hits) ∷ [])) in
-      (hits, told.1, subst (λ (l : Bytes). Sends r l a b) whole h.2)
+      (hits, texts.1, subst (λ (l : Bytes). Sends r l a b) whole h.2)
 
 -- ---- one line
 pub line_parts : (name : Name) (place : Place) (list : Solution)
@@ -179,9 +181,9 @@ at_number (x ∷ fs) (suc n) f k place is at = at_number fs n f k place is at
 module _ (f : Finding) (index : Kept) (relation : Relation) (p : Pattern)
     (of_index : f.index ≡ index) (of_relation : f.relation ≡ relation) (of_pattern : f.pattern ≡ p)
     (found : AreHits relation p (entries_from_position 0 index.clauses) f.hits) where
-  pub whole_answer : (hits : List Hit) → AreHitsOf f.relation f.pattern f.index.clauses f.hits hits → IsAnswer relation p (state_entries index.clauses) hits
+  pub whole_answer : (hits : List Hit) → AllZip (IsHitOf f.relation f.pattern f.index.clauses) f.hits hits → IsAnswer relation p (state_entries index.clauses) hits
   whole_answer hits h =
       is_answer relation p index.clauses f.hits hits found
-      (subst (λ k. AreHitsOf relation p k.clauses f.hits hits) of_index
-      (subst (λ q. AreHitsOf relation q f.index.clauses f.hits hits) of_pattern
-      (subst (λ r. AreHitsOf r f.pattern f.index.clauses f.hits hits) of_relation h)))
+      (subst (λ k. AllZip (IsHitOf relation p k.clauses) f.hits hits) of_index
+      (subst (λ q. AllZip (IsHitOf relation q f.index.clauses) f.hits hits) of_pattern
+      (subst (λ r. AllZip (IsHitOf r f.pattern f.index.clauses) f.hits hits) of_relation h)))

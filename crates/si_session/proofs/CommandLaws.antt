@@ -42,7 +42,7 @@ use Rattle.si_session.specs.declared.command.Command as read
 use Rattle.si_session.specs.declared.command.Command.TheVariants as command
 
 -- ---- words
--- tokens of lower words tell the words apart
+-- tokens of lower words report the words apart
 same_text : (x y : Bytes) → lower x ≡ lower y → x ≡ y
 same_text x y e = ap (λ (t : Token). t.text) e
 

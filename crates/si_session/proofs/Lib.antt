@@ -1,5 +1,5 @@
 pub mod CommandLaws
-pub mod Told
+pub mod EndedLines
 pub mod Standing
 pub mod Owing
 pub mod Acting

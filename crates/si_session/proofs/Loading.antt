@@ -1,8 +1,8 @@
--- What a load did, from what the harvest answered and what was told of it.
+-- What a load did, from what the harvest answered and what was reported of it.
 use Rattle.std.proofs.Common.{◌≡◌, ◌⊎◌, ℕ, Bool, List, [], ◌∷◌, ◌++◌, refl, sym, ap, ap₂, ◌∙◌, subst, inl, inr, Option, None, Some, Ok, Err, arith}
 use Rattle.std.specs.Prelude.{slice_get, IsTrue}
 use Rattle.si_defs.specs.Bytes.{Bytes}
-use Rattle.si_defs.specs.Clauses.{IsSoundClause, Clause}
+use Rattle.si_defs.specs.Clauses.{Clause}
 use Rattle.si_defs.specs.Entries.{clause_symbols}
 use Rattle.si_state.specs.States.{State, Rules}
 use Rattle.si_state.specs.Acceptance.{Refusal, Refuses}
@@ -10,7 +10,6 @@ use Rattle.si_state.specs.Harvest.{Files, Fault, cycle, too_deep, too_many, miss
 use Rattle.si_steps.specs.declared.limits.Limits.{Limits}
 use Rattle.si_steps.specs.Replies.{refusal_line, misused_line, full_line, fault_line, ok_line, memory_line}
 use Rattle.si_steps.specs.Loads.{misses_in, bigs_in, failures_in, owed_for, MayFetch, load_bounds, gained_line, PerformsLoad}
-use Rattle.si_term.proofs.EntryHeads.{symbol_placed}
 use Rattle.si_term.specs.Meaning.{name_of, clause_of}
 use Rattle.si_io.specs.Shown.{SinkShown, LibraryShown}
 use Rattle.si_io.specs.Library.{Counts, faults_in}
@@ -24,7 +23,7 @@ use Rattle.si_sign.specs.declared.faults.AddFault.TheVariants as add_fault
 use Rattle.si_harvest.specs.declared.faults.Loaded.{Loaded}
 use Rattle.si_harvest.specs.declared.faults.HarvestFault.{HarvestFault}
 use Rattle.si_harvest.specs.declared.faults.HarvestFault.TheVariants as harvest_fault
-use Rattle.si_harvest.specs.Faults.{IsReason, NamesFault, Explains, HasFaultCause}
+use Rattle.si_harvest.specs.Faults.{IsReason, NamesFault, NamesWhy, HasFaultCause}
 use Rattle.si_index.specs.Kept.{Kept}
 use Rattle.si_harvest.specs.Gains.{Gained, GainsByLoad}
 use Rattle.si_harvest.specs.Opened.{HasFault, HasFetched}
@@ -32,9 +31,9 @@ use Rattle.si_harvest.specs.Loading.{ReadsFiles}
 use Rattle.si_session.specs.declared.reply.ReplyLine as program
 use Rattle.si_session.specs.declared.stepped.Stepped.{Stepped}
 use Rattle.si_session.specs.Replies.{reply_line, misused_text}
-use Rattle.si_session.specs.Rejections.{TellsFault, IsTellable, TellsFaultOfLoad}
+use Rattle.si_session.specs.Rejections.{ReportsFault, IsReportable, ReportsFaultOfLoad}
 use Rattle.si_session.specs.Session.{around, behind_owed, IsCounted, Writes, HasLoaded, LoadsInto, rightly_loaded, ran_out, view_of, holding}
-use Rattle.si_session.proofs.Acting.{holds_same, at_seam, has_head}
+use Rattle.si_session.proofs.Acting.{holds_same, at_seam, is_reportable}
 
 -- ---- a clause that is refused
 rejects : (rules : Rules) (state : List Clause) (clause : Clause) (refusal : Refusal) (why : AddFault) → IsReason rules why refusal
@@ -44,51 +43,50 @@ rejects rules state clause refusal (add_fault.Clash c) reason h = (reason.0, rea
 rejects rules state clause refusal (add_fault.Full n most) reason h = (subst (Refuses rules state clause) reason.0 h, reason.1)
 rejects rules state clause refusal add_fault.Memory reason h = absurd reason
 
--- the line that tells it
-rejection_line : (rules : Rules) (state : List Clause) (r : Rejected) (told : program.ReplyLine) (refusal : Refusal) (why : AddFault) → IsSoundClause (clause_of r.clause) → IsReason rules why refusal
-    → Refuses rules state (clause_of r.clause) refusal → TellsFault r told why → reply_line told ≡ refusal_line rules.entries (name_of r.clause.name) refusal
-rejection_line rules state r told refusal add_fault.Taken sound reason h t = t ∙ ap (refusal_line rules.entries (name_of r.clause.name)) (sym reason)
-rejection_line rules state r told refusal (add_fault.Clash c) sound reason h t =
+-- the line that reports it
+rejection_line : (rules : Rules) (state : List Clause) (r : Rejected) (reported : program.ReplyLine) (refusal : Refusal) (why : AddFault) → IsReason rules why refusal
+    → Refuses rules state (clause_of r.clause) refusal → ReportsFault r reported why → reply_line reported ≡ refusal_line rules.entries (name_of r.clause.name) refusal
+rejection_line rules state r reported refusal add_fault.Taken reason h t = t ∙ ap (refusal_line rules.entries (name_of r.clause.name)) (sym reason)
+rejection_line rules state r reported refusal (add_fault.Clash c) reason h t =
     let clash = (subst (Refuses rules state (clause_of r.clause)) reason.2 h).1 in
-    let there : slice_get (clause_symbols (clause_of r.clause)) c.entry ≡ Some reason.0 = at_seam clash.before clash.after _ reason.0 c.entry clash.splits clash.position in
-    let placed = symbol_placed (clause_of r.clause) sound c.entry reason.0 there in
+    let there : slice_get (clause_symbols (clause_of r.clause)) c.occurrence ≡ Some reason.0 = at_seam clash.before clash.after _ reason.0 c.occurrence clash.splits clash.position in
     let same : misused_text reason.0 c.found c.kept ≡ misused_line reason.0 reason.1 =
     ap (λ shape. misused_text reason.0 shape c.kept) reason.3.0 ∙ ap (λ shape. misused_text reason.0 (shape_of reason.0) shape) reason.3.1 in
-    t reason.0 placed ∙ same ∙ ap (refusal_line rules.entries (name_of r.clause.name)) (sym reason.2)
-rejection_line rules state r told refusal (add_fault.Full n most) sound reason h t =
+    t reason.0 there ∙ same ∙ ap (refusal_line rules.entries (name_of r.clause.name)) (sym reason.2)
+rejection_line rules state r reported refusal (add_fault.Full n most) reason h t =
     t ∙ ap (full_line n) reason.1 ∙ ap (refusal_line rules.entries (name_of r.clause.name)) (sym reason.0)
-rejection_line rules state r told refusal add_fault.Memory sound reason h t = absurd reason
+rejection_line rules state r reported refusal add_fault.Memory reason h t = absurd reason
 
 -- ---- any fault of a load
-tellable_where : (rules : Rules) (e : HarvestFault) (fault : Fault) → NamesFault rules e fault → IsTellable e
-tellable_where rules (harvest_fault.Syntax file line) fault n = tt
-tellable_where rules (harvest_fault.Language file line) fault n = tt
-tellable_where rules (harvest_fault.Rejected r) fault n =
-    has_head rules n.2.kept r n.2.sound (rejects rules n.2.kept (clause_of r.clause) n.0 r.why n.2.reason n.2.refuses)
-tellable_where rules (harvest_fault.Missing file) fault n = tt
-tellable_where rules (harvest_fault.Big file) fault n = tt
-tellable_where rules (harvest_fault.Fault file) fault n = tt
-tellable_where rules (harvest_fault.Cycle file) fault n = tt
-tellable_where rules (harvest_fault.Depth file) fault n = tt
-tellable_where rules harvest_fault.Fetches fault n = tt
-tellable_where rules harvest_fault.Memory fault n = absurd n
+reportable_where : (rules : Rules) (e : HarvestFault) (fault : Fault) → NamesFault rules e fault → IsReportable e
+reportable_where rules (harvest_fault.Syntax file line) fault n = tt
+reportable_where rules (harvest_fault.Language file line) fault n = tt
+reportable_where rules (harvest_fault.Rejected r) fault n =
+    is_reportable rules n.2.kept r n.2.sound (rejects rules n.2.kept (clause_of r.clause) n.0 r.why n.2.reason n.2.refuses)
+reportable_where rules (harvest_fault.Missing file) fault n = tt
+reportable_where rules (harvest_fault.Big file) fault n = tt
+reportable_where rules (harvest_fault.Fault file) fault n = tt
+reportable_where rules (harvest_fault.Cycle file) fault n = tt
+reportable_where rules (harvest_fault.Depth file) fault n = tt
+reportable_where rules harvest_fault.Fetches fault n = tt
+reportable_where rules harvest_fault.Memory fault n = absurd n
 
-pub tellable : (rules : Rules) (e : HarvestFault) (P : Fault → Type 0) → Explains rules e P → IsTellable e
-tellable rules e P (inl m) = subst IsTellable (sym m) tt
-tellable rules e P (inr t) = tellable_where rules e t.fault t.told
+pub reportable : (rules : Rules) (e : HarvestFault) (P : Fault → Type 0) → NamesWhy rules e P → IsReportable e
+reportable rules e P (inl m) = subst IsReportable (sym m) tt
+reportable rules e P (inr t) = reportable_where rules e t.fault t.named
 
-pub fault_told : (rules : Rules) (e : HarvestFault) (fault : Fault) (told : program.ReplyLine) → NamesFault rules e fault → TellsFaultOfLoad e told → reply_line told ≡ fault_line rules.entries fault
-fault_told rules (harvest_fault.Syntax file line) fault told n t = t ∙ ap (fault_line rules.entries) (sym n)
-fault_told rules (harvest_fault.Language file line) fault told n t = t ∙ ap (fault_line rules.entries) (sym n)
-fault_told rules (harvest_fault.Rejected r) fault told n t =
-    rejection_line rules n.2.kept r told n.0 r.why n.2.sound n.2.reason n.2.refuses t ∙ ap (fault_line rules.entries) (sym n.1)
-fault_told rules (harvest_fault.Missing file) fault told n t = t ∙ ap (fault_line rules.entries) (sym n)
-fault_told rules (harvest_fault.Big file) fault told n t = t ∙ ap (fault_line rules.entries) (sym n)
-fault_told rules (harvest_fault.Fault file) fault told n t = t ∙ ap (fault_line rules.entries) (sym n)
-fault_told rules (harvest_fault.Cycle file) fault told n t = t ∙ ap (fault_line rules.entries) (sym n)
-fault_told rules (harvest_fault.Depth file) fault told n t = t ∙ ap (fault_line rules.entries) (sym n)
-fault_told rules harvest_fault.Fetches fault told n t = t ∙ ap (fault_line rules.entries) (sym n)
-fault_told rules harvest_fault.Memory fault told n t = absurd n
+pub fault_reported : (rules : Rules) (e : HarvestFault) (fault : Fault) (reported : program.ReplyLine) → NamesFault rules e fault → ReportsFaultOfLoad e reported → reply_line reported ≡ fault_line rules.entries fault
+fault_reported rules (harvest_fault.Syntax file line) fault reported n t = t ∙ ap (fault_line rules.entries) (sym n)
+fault_reported rules (harvest_fault.Language file line) fault reported n t = t ∙ ap (fault_line rules.entries) (sym n)
+fault_reported rules (harvest_fault.Rejected r) fault reported n t =
+    rejection_line rules n.2.kept r reported n.0 r.why n.2.reason n.2.refuses t ∙ ap (fault_line rules.entries) (sym n.1)
+fault_reported rules (harvest_fault.Missing file) fault reported n t = t ∙ ap (fault_line rules.entries) (sym n)
+fault_reported rules (harvest_fault.Big file) fault reported n t = t ∙ ap (fault_line rules.entries) (sym n)
+fault_reported rules (harvest_fault.Fault file) fault reported n t = t ∙ ap (fault_line rules.entries) (sym n)
+fault_reported rules (harvest_fault.Cycle file) fault reported n t = t ∙ ap (fault_line rules.entries) (sym n)
+fault_reported rules (harvest_fault.Depth file) fault reported n t = t ∙ ap (fault_line rules.entries) (sym n)
+fault_reported rules harvest_fault.Fetches fault reported n t = t ∙ ap (fault_line rules.entries) (sym n)
+fault_reported rules harvest_fault.Memory fault reported n t = absurd n
 
 -- ---- what a load owes
 -- so many fetches were counted, and the other counts moved by what a fault owes
@@ -159,19 +157,19 @@ module _ (limits : Limits) (file : Bytes) (old new : Kept) (o : Stepped) (a b : 
       )
 
   pub load_refused : (e : HarvestFault) (line : program.ReplyLine) → ReadsFiles {T = Loaded} x.files (load_bounds limits) old.rules file (Err e) old.clauses new.clauses x.counts.calls y.counts.calls
-      → TellsFaultOfLoad e line → HasFaultCause x.may_fail (faults_in x.counts) (faults_in y.counts) e → new.clauses ≡ old.clauses → Writes o (reply_line line ∷ []) a b
+      → ReportsFaultOfLoad e line → HasFaultCause x.may_fail (faults_in x.counts) (faults_in y.counts) e → new.clauses ≡ old.clauses → Writes o (reply_line line ∷ []) a b
       → LoadsInto limits file old new o (around a x) (around b y)
   load_refused e line reads t h same w state = by reads.fault where
-    by : Explains old.rules e (HasFault x.files (load_bounds limits) old.rules old.clauses file reads.made)
+    by : NamesWhy old.rules e (HasFault x.files (load_bounds limits) old.rules old.clauses file reads.made)
         → HasLoaded (view_of limits old).setting file (holding state old) (holding state new) o (around a x) (around b y)
     by (inl m) =
-        let out : reply_line line ≡ memory_line = subst (λ f. TellsFaultOfLoad f line) m t in
+        let out : reply_line line ≡ memory_line = subst (λ f. ReportsFaultOfLoad f line) m t in
         ran_out (owed_for reads.made None) (reads.may, refl, first_made x.files reads.made state reads.may reads.first same) (holds_same old new state same) (subst (λ l. Writes o (l ∷ []) a b) out w)
         (gained_counted reads.made x.may_fail x.counts y.counts reads.counted (subst (HasFaultCause x.may_fail (faults_in x.counts) (faults_in y.counts)) m h))
     by (inr r) =
         rightly_loaded (fault_line old.rules.entries r.fault ∷ []) (owed_for reads.made (Some r.fault)) (refused_where x.files r.fault reads.made state reads.may r.holds same)
-        (subst (λ l. Writes o (l ∷ []) a b) (fault_told old.rules e r.fault line r.told t) w)
-        (fault_counted old.rules reads.made r.fault x.may_fail x.counts y.counts reads.counted e r.told h)
+        (subst (λ l. Writes o (l ∷ []) a b) (fault_reported old.rules e r.fault line r.named t) w)
+        (fault_counted old.rules reads.made r.fault x.may_fail x.counts y.counts reads.counted e r.named h)
 
   gained_where : (told : Option Files) (loaded : Loaded) (made : ℕ) (state : State) → Gained old.rules old.clauses loaded new.clauses
       → MayFetch (load_bounds limits) file made → GainsByLoad told (load_bounds limits) old.rules old.clauses file made new.clauses

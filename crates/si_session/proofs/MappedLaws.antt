@@ -1,7 +1,7 @@
 -- What is found by positions is what is answered; and its lines.
 use Rattle.std.proofs.Common.{◌≡◌, inl, inr, ℕ, suc, ◌+◌, List, [], ◌∷◌, ◌++◌, length, map, Result, Some, refl, sym, ◌∙◌, ap, subst, arith, append_assoc, length-append}
 use Rattle.std.specs.Prelude.{slice_get}
-use Rattle.std.specs.List.{AllByRecursion, concat}
+use Rattle.std.specs.List.{AllByRecursion, AllZip, concat, range_with_len}
 use Rattle.si_defs.specs.Bytes.{Bytes}
 use Rattle.si_defs.specs.Clauses.{Name, Literal, Clause}
 use Rattle.si_defs.specs.Printing.{name_text, map_text}
@@ -11,7 +11,7 @@ use Rattle.si_steps.specs.Replies.{mapped_reply, end_line}
 use Rattle.si_steps.specs.Runs.{ended}
 use Rattle.si_io.specs.Shown.{SinkShown}
 use Rattle.si_io.specs.Sends.{Sends}
-use Rattle.si_io.specs.Lines.{AreTexts, HaveTexts, WritesLines}
+use Rattle.si_io.specs.Lines.{HaveTexts, WritesLines}
 use Rattle.si_io.specs.declared.failed.Failed.{Failed}
 use Rattle.si_defs.proofs.ListLaws.{all_got, get_some, get_here}
 use Rattle.si_index.specs.declared.subsuming.Mapped.{Mapped}
@@ -21,7 +21,7 @@ use Rattle.si_session.specs.MappedClauses.{IsKeptAt, IsMappedLine, mapped_at, al
 use Rattle.si_session.specs.Session.{Writes, HasPerformed, rightly}
 use Rattle.si_session.specs.declared.separator.Separator.TheVariants.{Space, LineFeed}
 use Rattle.si_session.specs.declared.stepped.Stepped.{Stepped}
-use Rattle.si_session.proofs.Told.{ended-append}
+use Rattle.si_session.proofs.EndedLines.{ended-append}
 use Rattle.si_reply.proofs.Pieces.{four_apart}
 
 -- ---- positions
@@ -86,22 +86,24 @@ module _ (clauses : List Clause) (found : List Mapped) where
       (mapped_line c.0.name m.0.map, (m.0, c.0, m.1, c.1, refl))
 
   -- and the texts of all lines are those of the answer
-  texts_mapped : (done rest : List Mapped) → found ≡ done ++ rest → (texts : List Bytes) → AreTexts (IsMappedLine clauses found) (length done) (length rest) texts → concat texts ≡ lines_of clauses rest
-  texts_mapped done [] e texts h = ap concat h
-  texts_mapped done (x ∷ rest) e texts h =
-      let line = h.2 in
+  texts_mapped : (done rest : List Mapped) → found ≡ done ++ rest → (texts : List Bytes) → AllZip (IsMappedLine clauses found) (range_with_len (length done) (length rest)) texts → concat texts ≡ lines_of clauses rest
+  texts_mapped done [] e [] h = refl
+  texts_mapped done [] e (text ∷ texts) h = absurd h
+  texts_mapped done (x ∷ rest) e [] h = absurd h
+  texts_mapped done (x ∷ rest) e (text ∷ texts) h =
+      let line = h.0 in
       let there : slice_get found (length done) ≡ Some x = subst (λ (l : List Mapped). slice_get l (length done) ≡ Some x) (sym e) (get_here done x rest) in
       let same : line.0 ≡ x = (let both : Some line.0 ≡ Some x = sym line.2 ∙ there in cc) in
       let clause : slice_get clauses x.clause ≡ Some line.1 = subst (λ (m : Mapped). slice_get clauses m.clause ≡ Some line.1) same line.3 in
-      let after : suc (length done) ≡ length (done ++ x ∷ []) = omega (arith, length-append done (x ∷ [])) in
-      let others = texts_mapped (done ++ x ∷ []) rest (e ∙ sym (append_assoc done (x ∷ []) rest)) h.1 (subst (λ (k : ℕ). AreTexts (IsMappedLine clauses found) k (length rest) h.1) after h.3) in
-      ap concat h.4 ∙ ap (λ (l : Bytes). l ++ concat h.1) (line.4 ∙ ap (λ (m : Mapped). mapped_line line.1.name m.map) same)
+      let after : length done + 1 ≡ length (done ++ x ∷ []) = omega (arith, length-append done (x ∷ [])) in
+      let others = texts_mapped (done ++ x ∷ []) rest (e ∙ sym (append_assoc done (x ∷ []) rest)) texts (subst (λ (k : ℕ). AllZip (IsMappedLine clauses found) (range_with_len k (length rest)) texts) after h.1) in
+      ap (λ (l : Bytes). l ++ concat texts) (line.4 ∙ ap (λ (m : Mapped). mapped_line line.1.name m.map) same)
       ∙ ap (λ (l : Bytes). mapped_line line.1.name x.map ++ l) others ∙ sym (next_line clauses x rest line.1 clause)
 
   -- the whole answer
-  pub maps_told : AllByRecursion (IsKeptAt clauses) found → (r : Result (Unit {0}) Failed) (a b : SinkShown) → WritesLines (IsMappedLine clauses found) (length found) (end_line (length found) ++ 10 ∷ []) r a b
+  pub maps_reported : AllByRecursion (IsKeptAt clauses) found → (r : Result (Unit {0}) Failed) (a b : SinkShown) → WritesLines (IsMappedLine clauses found) (length found) (end_line (length found) ++ 10 ∷ []) r a b
       → Sends r (ended (mapped_reply (all_mapped clauses found))) a b
-  maps_told kept r a b h =
+  maps_reported kept r a b h =
       let ms = all_mapped clauses found in
       let last : Bytes → ℕ → Bytes = λ front n. front ++ (end_line n ++ 10 ∷ []) in
       let whole : concat h.0 ++ (end_line (length found) ++ 10 ∷ []) ≡ ended (mapped_reply ms) =

@@ -1,10 +1,9 @@
--- What a library counts where nothing is owed, and where two replies owe; and that its files stay.
+-- What a library counts where nothing is owed, and where two replies owe.
 use Rattle.std.proofs.Common.{◌≡◌, ℕ, ◌+◌, Bool, refl, ap, ◌∙◌, arith}
 use Rattle.si_steps.specs.Loads.{Owed, nothing, together}
 use Rattle.si_io.specs.declared.counts.LibraryCounts.{LibraryCounts}
 use Rattle.si_io.specs.Counts.{raised_by}
-use Rattle.si_io.specs.Shown.{LibraryShown}
-use Rattle.si_session.specs.Session.{behind_owed, IsCounted, KeepsFiles}
+use Rattle.si_session.specs.Session.{behind_owed, IsCounted}
 
 pub counts_nothing : (counts : LibraryCounts) (may_fail : Bool) → IsCounted may_fail nothing counts counts
 counts_nothing counts may_fail = record {
@@ -31,10 +30,3 @@ counts_then may_fail before middle now one other h k = record {
   counts = k.counts ∙ ap (behind_owed other) h.counts ∙ behind_both one other before;
   sure = λ never. omega (arith, h.sure never, k.sure never);
 }
-
--- ---- its files
-pub same_files : (library : LibraryShown) → KeepsFiles library library
-same_files library = record { told = refl; same = refl }
-
-pub files_then : (x y z : LibraryShown) → KeepsFiles x y → KeepsFiles y z → KeepsFiles x z
-files_then x y z h k = record { told = k.told ∙ h.told; same = k.same ∙ h.same }

@@ -14,7 +14,7 @@ use Rattle.si_sign.specs.declared.faults.Shape.{Shape}
 use Rattle.si_term.specs.declared.term.Sym.{Sym}
 use Rattle.si_term.specs.declared.text.Text.{Text}
 use Rattle.si_defs.specs.Tokens.{begins_with}
-use Rattle.si_steps.specs.Replies.{file_line, spot_line}
+use Rattle.si_steps.specs.Replies.{file_line, numbered_line}
 use Rattle.si_term.specs.Terms.{symbol_of}
 use Rattle.si_session.specs.Replies.{reply_line, closed_line, stats_text, counts_text, counts_reply, closed_shape, file_word, line_word}
 use Rattle.si_session.specs.Separators.{separator_text}
@@ -95,43 +95,43 @@ stats_line_is r stats e = ap closed_line (sym e)
 pub three : (w n m : Bytes) (a b c : ℕ) → (w ++ decimal a) ++ ((n ++ decimal b) ++ (m ++ decimal c)) ≡ ((((w ++ decimal a) ++ n) ++ decimal b) ++ m) ++ decimal c
 three w n m a b c = five (w ++ decimal a) n (decimal b) m (decimal c)
 
-pub sample_told : (r : ReplyLine) (clauses gained sum : ℕ) → r ≡ reply.Sample clauses gained sum
+pub sample_reported : (r : ReplyLine) (clauses gained sum : ℕ) → r ≡ reply.Sample clauses gained sum
     → (codes "sample " ++ decimal clauses) ++ ((codes " " ++ decimal gained) ++ (codes " " ++ decimal sum)) ≡ closed_line r
 unfolding closed_line
-sample_told r clauses gained sum e = three (codes "sample ") (codes " ") (codes " ") clauses gained sum ∙ ap closed_line (sym e)
+sample_reported r clauses gained sum e = three (codes "sample ") (codes " ") (codes " ") clauses gained sum ∙ ap closed_line (sym e)
 
-pub explained_told : (r : ReplyLine) (x : Explained) → r ≡ reply.Explained x
+pub explained_reported : (r : ReplyLine) (x : Explained) → r ≡ reply.Explained x
     → (codes "passed " ++ decimal x.passed) ++ ((codes " nodes " ++ decimal x.nodes) ++ (codes " answers " ++ decimal x.answers)) ≡ closed_line r
 unfolding closed_line
-explained_told r x e = three (codes "passed ") (codes " nodes ") (codes " answers ") x.passed x.nodes x.answers ∙ ap closed_line (sym e)
+explained_reported r x e = three (codes "passed ") (codes " nodes ") (codes " answers ") x.passed x.nodes x.answers ∙ ap closed_line (sym e)
 
 -- ---- the lines of trees
-abbrev pub tree_told : Bytes → Counts → Bytes
-tree_told word counts =
+abbrev pub tree_reported : Bytes → Counts → Bytes
+tree_reported word counts =
     ((word ++ decimal counts.nodes) ++ ((codes " leaves " ++ decimal counts.leaves) ++ (codes " unmerged " ++ decimal counts.unmerged))) ++ separator_text LineFeed
 
-tree_line : (word : Bytes) (counts : Counts) → tree_told word counts ≡ (((((word ++ decimal counts.nodes) ++ codes " leaves ") ++ decimal counts.leaves) ++ codes " unmerged ") ++ decimal counts.unmerged) ++ 10 ∷ []
+tree_line : (word : Bytes) (counts : Counts) → tree_reported word counts ≡ (((((word ++ decimal counts.nodes) ++ codes " leaves ") ++ decimal counts.leaves) ++ codes " unmerged ") ++ decimal counts.unmerged) ++ 10 ∷ []
 unfolding separator_text
 tree_line word counts = ap (λ l. l ++ 10 ∷ []) (three word (codes " leaves ") (codes " unmerged ") counts.nodes counts.leaves counts.unmerged)
 
-pub trees_told : (counts : TreeCounts) → tree_told (codes "literals nodes ") counts.literals ++ tree_told (codes "terms nodes ") counts.terms ≡ ended (counts_reply counts)
-trees_told counts =
+pub trees_reported : (counts : TreeCounts) → tree_reported (codes "literals nodes ") counts.literals ++ tree_reported (codes "terms nodes ") counts.terms ≡ ended (counts_reply counts)
+trees_reported counts =
     ap₂ (λ x y. x ++ y) (tree_line (codes "literals nodes ") counts.literals) (tree_line (codes "terms nodes ") counts.terms)
     ∙ append_assoc (counts_text (codes "literals") counts.literals) (10 ∷ []) (counts_text (codes "terms") counts.terms ++ 10 ∷ [])
 
 -- ---- files
-pub file_told : (r : ReplyLine) (fault : FileFault) (file : Bor Text) (w b : Bytes) → r ≡ reply.File fault file → w ≡ file_word fault → b ≡ file.now
+pub file_reported : (r : ReplyLine) (fault : FileFault) (file : Bor Text) (w b : Bytes) → r ≡ reply.File fault file → w ≡ file_word fault → b ≡ file.now
     → w ++ file_text b ≡ closed_line r
 unfolding closed_line
-file_told r fault file w b e word bytes = ap₂ file_line word bytes ∙ ap closed_line (sym e)
+file_reported r fault file w b e word bytes = ap₂ file_line word bytes ∙ ap closed_line (sym e)
 
-pub line_told : (r : ReplyLine) (fault : LineFault) (file : Bor Text) (line : ℕ) (w b : Bytes) → r ≡ reply.Line fault file line → w ≡ line_word fault → b ≡ file.now
+pub line_reported : (r : ReplyLine) (fault : LineFault) (file : Bor Text) (line : ℕ) (w b : Bytes) → r ≡ reply.Line fault file line → w ≡ line_word fault → b ≡ file.now
     → w ++ (file_text b ++ (codes " " ++ decimal line)) ≡ closed_line r
 unfolding closed_line
-line_told r fault file line w b e word bytes =
+line_reported r fault file line w b e word bytes =
     sym (append_assoc w (file_text b) (codes " " ++ decimal line))
     ∙ sym (append_assoc (w ++ file_text b) (codes " ") (decimal line))
-    ∙ ap₂ (λ x y. spot_line x y line) word bytes ∙ ap closed_line (sym e)
+    ∙ ap₂ (λ x y. numbered_line x y line) word bytes ∙ ap closed_line (sym e)
 
 file_marked : (fault : FileFault) (file : Bytes) → true ≡ begins_with 33 (file_line (file_word fault) file)
 unfolding file_word
@@ -141,7 +141,7 @@ file_marked file_fault.Missing file = refl
 file_marked file_fault.Big file = refl
 file_marked file_fault.Failed file = refl
 
-line_marked : (fault : LineFault) (file : Bytes) (line : ℕ) → true ≡ begins_with 33 (spot_line (line_word fault) file line)
+line_marked : (fault : LineFault) (file : Bytes) (line : ℕ) → true ≡ begins_with 33 (numbered_line (line_word fault) file line)
 unfolding line_word
 line_marked line_fault.Syntax file line = refl
 line_marked line_fault.Language file line = refl

@@ -23,16 +23,16 @@ use Rattle.si_flat.specs.Flattened.{IsSoundEntry}
 use Rattle.si_index.specs.Kept.{Kept}
 use Rattle.si_harvest.specs.declared.faults.Loaded.{Loaded}
 use Rattle.si_harvest.specs.declared.faults.HarvestFault.{HarvestFault}
-use Rattle.si_harvest.specs.Faults.{Explains}
+use Rattle.si_harvest.specs.Faults.{NamesWhy}
 use Rattle.si_harvest.specs.Texts.{GainsText}
 use Rattle.si_session.specs.declared.reply.ReplyLine as program
 use Rattle.si_session.specs.declared.stepped.Stepped.{Stepped}
 use Rattle.si_session.specs.Replies.{reply_line}
-use Rattle.si_session.specs.Rejections.{TellsFaultOfLoad}
+use Rattle.si_session.specs.Rejections.{ReportsFaultOfLoad}
 use Rattle.si_session.specs.Session.{Writes, ActsOn, rightly, at_once, holding, ruled_by}
-use Rattle.si_session.specs.Sums.{GainsSample, RefusesSample, CountsAnswers, SumsTo, TellsSum}
+use Rattle.si_session.specs.Sums.{GainsSample, RefusesSample, CountsAnswers, SumsTo, ReportsSum}
 use Rattle.si_session.proofs.Acting.{holds_same}
-use Rattle.si_session.proofs.Loading.{fault_told}
+use Rattle.si_session.proofs.Loading.{fault_reported}
 
 abbrev All : Type 0
 All = List (Clause × Placed)
@@ -189,9 +189,9 @@ sample_gained rules start count state new drawn text gained h are g = (g.0, (tex
 
 -- ---- the command
 module _ (start count : ℕ) (old new : Kept) (o : Stepped) (a b : SinkShown) where
-  pub sample_told : (between : List Clause) (gained : Loaded) → GainsSample old.rules start count old.clauses gained between → TellsSum gained between new.clauses o a b
+  pub sample_reported : (between : List Clause) (gained : Loaded) → GainsSample old.rules start count old.clauses gained between → ReportsSum gained between new.clauses o a b
       → ActsOn (sample start count) old new o a b
-  sample_told between gained g (inl t) setting state =
+  sample_reported between gained g (inl t) setting state =
       let all = g.0 in
       let last = last_of old.clauses all.gained between gained.clauses all.whole all.clauses in
       rightly (sample_line gained.clauses gained.entries t.0 ∷ []) (
@@ -206,7 +206,7 @@ module _ (start count : ℕ) (old new : Kept) (o : Stepped) (a b : SinkShown) wh
         ),
       )
       t.3
-  sample_told between gained g (inr t) setting state =
+  sample_reported between gained g (inr t) setting state =
       at_once (holds_same old new state (t.0 ∙ first_of old.clauses g.0.gained between gained.clauses g.0.whole g.0.clauses)) t.1
 
   first_refused : (setting : Setting) (state : State) (fault : Fault) → RefusesSample old.rules start count old.clauses fault → new.clauses ≡ old.clauses
@@ -221,11 +221,11 @@ module _ (start count : ℕ) (old new : Kept) (o : Stepped) (a b : SinkShown) wh
   first_refused setting state (foreign file line) h same = absurd h.2
   first_refused setting state (malformed file line) h same = absurd h.2
 
-  pub sample_refused : (e : HarvestFault) (line : program.ReplyLine) → Explains old.rules e (RefusesSample old.rules start count old.clauses) → TellsFaultOfLoad e line
+  pub sample_refused : (e : HarvestFault) (line : program.ReplyLine) → NamesWhy old.rules e (RefusesSample old.rules start count old.clauses) → ReportsFaultOfLoad e line
       → new.clauses ≡ old.clauses → Writes o (reply_line line ∷ []) a b → ActsOn (sample start count) old new o a b
   sample_refused e line (inl m) t same w setting state =
-      let out : reply_line line ≡ memory_line = subst (λ f. TellsFaultOfLoad f line) m t in
+      let out : reply_line line ≡ memory_line = subst (λ f. ReportsFaultOfLoad f line) m t in
       at_once (holds_same old new state same) (subst (λ l. Writes o (l ∷ []) a b) out w)
   sample_refused e line (inr r) t same w setting state =
       rightly (fault_line old.rules.entries r.fault ∷ []) (first_refused setting state r.fault r.holds same)
-      (subst (λ l. Writes o (l ∷ []) a b) (fault_told old.rules e r.fault line r.told t) w)
+      (subst (λ l. Writes o (l ∷ []) a b) (fault_reported old.rules e r.fault line r.named t) w)

@@ -1,5 +1,6 @@
 -- The hits that were found, with the lists that are shown, and their lines.
 use Rattle.std.specs.Prelude.{◌≡◌, ◌<◌, ℕ, List, [], ◌∷◌, ◌++◌, length, Result, Some, slice_get}
+use Rattle.std.specs.List.{AllZip}
 use Rattle.si_defs.specs.Bytes.{Bytes}
 use Rattle.si_defs.specs.Clauses.{Name, Clause, Pattern}
 use Rattle.si_defs.specs.Entries.{Place, Placed}
@@ -23,12 +24,6 @@ pub record IsHitOf (relation : Relation) (pattern : Pattern) (clauses : List Cla
   pub placed : hit.placed ≡ found.1
   pub solves : Solves relation pattern found.1.entry hit.solution
 
-abbrev pub AreHitsOf : Relation → Pattern → List Clause → List (ℕ × Placed) → List Hit → Type 0
-AreHitsOf relation pattern clauses [] hits = hits ≡ []
-AreHitsOf relation pattern clauses (f ∷ fs) hits =
-    (hit : Hit) × (others : List Hit) × IsHitOf relation pattern clauses f hit
-    × AreHitsOf relation pattern clauses fs others × (hits ≡ hit ∷ others)
-
 -- each stands at the position of a clause
 abbrev pub IsInside : List Clause → ℕ × Placed → Type 0
 IsInside clauses found = found.0 < length clauses
@@ -40,9 +35,9 @@ IsHitLine f n text =
     × IsHitOf f.relation f.pattern f.index.clauses found hit × (text ≡ ended (hit_text hit ∷ []))
 
 -- the answer was written, or the sink failed at it
-abbrev pub TellsAnswer : Finding → Result (Unit {0}) Failed → SinkShown → SinkShown → Type 0
-TellsAnswer f result before after =
-    (hits : List Hit) × AreHitsOf f.relation f.pattern f.index.clauses f.hits hits
+abbrev pub ReportsAnswer : Finding → Result (Unit {0}) Failed → SinkShown → SinkShown → Type 0
+ReportsAnswer f result before after =
+    (hits : List Hit) × AllZip (IsHitOf f.relation f.pattern f.index.clauses) f.hits hits
     × Sends result (ended (answer_reply hits)) before after
 
 -- a line of a place and a list, with its end

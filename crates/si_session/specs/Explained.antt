@@ -1,4 +1,4 @@
--- What is told of a query, and what became of the sink where it was.
+-- What is reported of a query, and what became of the sink where it was.
 use Rattle.std.specs.Prelude.{◌≡◌, Bool, [], ◌∷◌, ◌⊎◌}
 use Rattle.si_defs.specs.Bytes.{Bytes}
 use Rattle.si_defs.specs.Clauses.{Pattern}
@@ -17,8 +17,8 @@ use Rattle.si_session.specs.Session.{Writes}
 use Rattle.si_session.specs.declared.stepped.Stepped.{Stepped}
 
 -- its line was written, or that memory ran out
-abbrev pub TellsExplained : Kept → Relation → Pattern → Stepped → SinkShown → SinkShown → Type 0
-TellsExplained index relation p outcome before after =
+abbrev pub ReportsExplained : Kept → Relation → Pattern → Stepped → SinkShown → SinkShown → Type 0
+ReportsExplained index relation p outcome before after =
     ((e : Explained) × Explains index relation p e
     × Writes outcome (explain_line e.passed e.nodes e.answers ∷ []) before after)
     ⊎ Writes outcome (memory_line ∷ []) before after

@@ -3,7 +3,7 @@ use Rattle.std.specs.Prelude.{[], ◌∷◌, ◌++◌, codes, decimal}
 use Rattle.si_defs.specs.Bytes.{Bytes}
 use Rattle.si_defs.specs.Symbols.{Symbol}
 use Rattle.si_defs.specs.Printing.{symbol_text, shape_text}
-use Rattle.si_steps.specs.Replies.{Reply, ok_line, stats_line, explain_line, sample_line, taken_line, full_line, unknown_line, file_line, spot_line, fetches_line, long_line, language_line, syntax_line, memory_line}
+use Rattle.si_steps.specs.Replies.{Reply, ok_line, stats_line, explain_line, sample_line, taken_line, full_line, unknown_line, file_line, numbered_line, fetches_line, long_line, language_line, syntax_line, memory_line}
 use Rattle.si_sign.specs.declared.faults.Shape.{Shape}
 use Rattle.si_term.specs.Terms.{symbol_of}
 use Rattle.si_term.specs.Meaning.{name_of}
@@ -49,7 +49,7 @@ reply_line (reply.Misused symbol found kept) = misused_text (symbol_of symbol.no
 reply_line (reply.Full needed limit) = full_line needed limit
 reply_line (reply.Unknown name) = unknown_line (name_of name.now)
 reply_line (reply.File fault file) = file_line (file_word fault) file.now
-reply_line (reply.Line fault file line) = spot_line (line_word fault) file.now line
+reply_line (reply.Line fault file line) = numbered_line (line_word fault) file.now line
 reply_line reply.Fetches = fetches_line
 reply_line reply.Long = long_line
 reply_line reply.Language = language_line

@@ -16,7 +16,7 @@ use Rattle.si_steps.specs.Replies.{Reply, is_refusal, memory_line}
 use Rattle.si_steps.specs.Loads.{Owed, OwesFetches, PerformsLoad}
 use Rattle.si_steps.specs.Steps.{Performs}
 use Rattle.si_steps.specs.Runs.{Request, a_word, a_line, Acts, ended}
-use Rattle.si_io.specs.Shown.{SinkShown, LibraryShown}
+use Rattle.si_io.specs.Shown.{SinkShown, LibraryShown, KeepsFiles}
 use Rattle.si_io.specs.Sends.{SendsAll, SendsPart}
 use Rattle.si_io.specs.declared.counts.LibraryCounts.{LibraryCounts}
 use Rattle.si_io.specs.Counts.{raised, raised_by}
@@ -123,11 +123,6 @@ behind_owed owed counts = record {
 pub record IsCounted (may_fail : Bool) (owed : Owed) (before now : LibraryCounts) : Type 0 where
   pub counts : now ≡ behind_owed owed before
   pub sure : IsFalse may_fail → owed.failures ≡ 0
-
--- The library tells the same files as before, and may fail where it might before.
-pub record KeepsFiles (before after : LibraryShown) : Type 0 where
-  pub told : after.files ≡ before.files
-  pub same : after.may_fail ≡ before.may_fail
 
 -- what a sink and a library show before a call, or after it
 pub record Around : Type 0 where

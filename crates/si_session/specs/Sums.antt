@@ -50,9 +50,10 @@ pub record SumsTo (all whole left : List (Clause × Placed)) (sum : ℕ) : Type 
   pub sums : SumsAnswers all asked sum
   pub few : sum ≤ 4294967296 * length asked
 
--- The sum for what was gained was told; or memory ran out, and it is gone again.
-abbrev pub TellsSum : Loaded → List Clause → List Clause → Stepped → SinkShown → SinkShown → Type 0
-TellsSum gained old new outcome before after =
+-- The sum for what was gained was reported; or memory ran out, and it is gone again.
+abbrev pub ReportsSum : Loaded → List Clause → List Clause → Stepped → SinkShown → SinkShown
+    → Type 0
+ReportsSum gained old new outcome before after =
     ((sum : ℕ) × SumsLast old gained.clauses sum × (new ≡ old)
     × Writes outcome (sample_line gained.clauses gained.entries sum ∷ []) before after)
     ⊎ ((new ≡ take (length old - gained.clauses) old)

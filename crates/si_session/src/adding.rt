@@ -1,5 +1,5 @@
 // Clauses of lines that are read as those of files.
-ghost use Rattle.std.specs.Prelude.{◌≡◌, ◌≤◌, IfOk, IfSome, IsTrue, length};
+ghost use Rattle.std.specs.Prelude.{◌≡◌, ◌≤◌, ◌↔◌, IfOk, IfSome, IsTrue, length};
 ghost use Rattle.si_defs.specs.Tokens.{lower};
 ghost use Rattle.si_defs.specs.declared.TheConstants.{MOST_BYTES};
 ghost use Rattle.si_steps.specs.Words.{command_text};
@@ -57,8 +57,8 @@ fn added(alloc: Global, line: &[u8]) -> Result<Option<Clause>, AllocError>
 
 /// Whether a token is the word `add`.
 fn is_add(token: &Token) -> bool
-    ensures { IsTrue result → record { kind = token.now.kind; text = token.now.text }
-        ≡ lower (command_text Add) }
+    ensures { IsTrue result ↔ (record { kind = token.now.kind; text = token.now.text }
+        ≡ lower (command_text Add)) }
 {
     match token.kind {
         TokenKind::Lower => token.text.as_bytes() == b"add".as_slice(),

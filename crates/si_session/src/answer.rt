@@ -1,49 +1,38 @@
 // The answer to a query: a line for each hit.
-ghost use Rattle.std.specs.Prelude.{◌≡◌, ◌<◌, ◌^◌, length, map};
+ghost use Rattle.std.specs.Prelude.{◌≡◌, ◌<◌, ◌^◌, length};
 ghost use Rattle.std.specs.List.{AllByRecursion};
 ghost use Rattle.si_defs.specs.Variables as variables;
-ghost use Rattle.si_state.specs.Signatures.{numbering};
 ghost use Rattle.si_io.specs.Sends.{Sends};
 ghost use Rattle.si_term.specs.Meaning.{name_of, place_of};
 ghost use Rattle.si_index.specs.Searching.{HasSolution};
-ghost use Rattle.si_reply.specs.NamedLists.{naming, ShowsList};
-ghost use Rattle.si_session.specs.Answering.{IsInside, TellsAnswer, hit_line};
+ghost use Rattle.si_reply.specs.NamedLists.{ShowsList};
+ghost use Rattle.si_session.specs.Answering.{IsInside, ReportsAnswer, hit_line};
 
 use crate::reply::put_end;
 use crate::separator::{Separator, put_separator};
-use si_index::{Found, Lent};
+use si_form::Solution;
+use si_index::Found;
 use si_io::{Failed, Lines, Sink, write_lines};
-use si_reply::{put_place, put_solution};
+use si_reply::{Naming, put_place, put_solution};
 use si_sign::Signature;
 use si_term::{Name, Place};
 
 /// Writes the line of a hit: its place and its list.
-fn put_hit<K: Sink>(
+fn put_hit<'a, K: Sink>(
     sink: &mut K,
     name: &Name,
     place: &Place,
-    lent: &Lent<'_, '_>,
-    signature: &Signature,
+    naming: &Naming<'a, Signature, &'a [&'a [u8]]>,
+    solution: &Solution,
 ) -> Result<(), Failed>
-    requires known { (list : variables.Solution) × ShowsList (naming (numbering signature.now)
-        lent.now.extra.now lent.now.query_names.now
-        (map (λ name. name.now) lent.now.entry_names.now)) lent.now.solution.now list }
-    ensures { (list : variables.Solution) → ShowsList (naming (numbering signature.now)
-        lent.now.extra.now lent.now.query_names.now
-        (map (λ name. name.now) lent.now.entry_names.now)) lent.now.solution.now list
+    requires known { (list : variables.Solution) × ShowsList naming.now solution.now list }
+    ensures { (list : variables.Solution) → ShowsList naming.now solution.now list
         → Sends result (hit_line (name_of name.now) (place_of place.now) list)
         (K.shown sink.old) (K.shown sink.new) }
 {
     put_place(sink, name, place)?;
     put_separator(sink, Separator::Space)?;
-    put_solution(
-        sink,
-        lent.solution,
-        signature,
-        lent.extra,
-        lent.query_names,
-        &lent.entry_names,
-    )?;
+    put_solution(sink, naming, solution)?;
     put_separator(sink, Separator::LineFeed)
 }
 
@@ -75,13 +64,13 @@ impl Lines for Hits<'_, '_> {
         let clause = self.found.clause(n);
         let hit = self.found.hit(n);
         let lent = self.found.lent(n);
-        put_hit(
-            sink,
-            &clause.name,
-            &hit.place,
-            &lent,
-            self.found.signature(),
-        )
+        let naming = Naming {
+            table: self.found.signature(),
+            extra: lent.extra,
+            query_names: lent.query_names,
+            entry_names: &lent.entry_names,
+        };
+        put_hit(sink, &clause.name, &hit.place, &naming, lent.solution)
     }
 
     fn put_last<K: Sink>(&self, sink: &mut K) -> Result<(), Failed> {
@@ -90,11 +79,11 @@ impl Lines for Hits<'_, '_> {
 }
 
 /// Writes the answer, in large pieces. This takes no memory.
-pub fn tell_answer<K: Sink>(found: &Found<'_>, sink: &mut K) -> Result<(), Failed>
+pub fn report_answer<K: Sink>(found: &Found<'_>, sink: &mut K) -> Result<(), Failed>
     requires inside { AllByRecursion (IsInside found.now.index.clauses) found.now.hits }
     requires solved { AllByRecursion (λ hit. HasSolution found.now.relation found.now.pattern
         hit.1.entry) found.now.hits }
-    ensures { TellsAnswer found.now result (K.shown sink.old) (K.shown sink.new) }
+    ensures { ReportsAnswer found.now result (K.shown sink.old) (K.shown sink.new) }
 {
     let count = found.len();
     let hits = Hits { found, count };

@@ -320,7 +320,7 @@ fn refuses(reply: ReplyLine<'_>) -> bool
 }
 
 /// Writes a line of a reply, and says what became of the command line.
-pub fn tell<K: Sink>(sink: &mut K, reply: ReplyLine<'_>) -> Stepped
+pub fn report<K: Sink>(sink: &mut K, reply: ReplyLine<'_>) -> Stepped
     ensures written { Writes result (reply_line reply.entry ∷ []) (K.shown sink.old)
         (K.shown sink.new) }
     ensures faults { CountsSinkFault result (K.shown sink.old) (K.shown sink.new) }

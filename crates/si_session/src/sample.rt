@@ -7,12 +7,12 @@ ghost use Rattle.si_state.specs.Samples.{AllowsSample, SumsAnswers};
 ghost use Rattle.si_steps.specs.Commands.{sample};
 ghost use Rattle.si_term.specs.Meaning.{clause_of, entry_of, pattern_of};
 ghost use Rattle.si_flat.specs.Flattened.{IsSoundEntry};
-ghost use Rattle.si_harvest.specs.Faults.{Explains};
+ghost use Rattle.si_harvest.specs.Faults.{NamesWhy};
 ghost use Rattle.si_session.specs.Session.{ActsOn, CountsSinkFault};
-ghost use Rattle.si_session.specs.Sums.{GainsSample, RefusesSample, CountsUnifiable, CountsAnswers, SumsLast, TellsSum};
+ghost use Rattle.si_session.specs.Sums.{GainsSample, RefusesSample, CountsUnifiable, CountsAnswers, SumsLast, ReportsSum};
 
 use crate::refusals::load_refusal;
-use crate::reply::{ReplyLine, tell};
+use crate::reply::{ReplyLine, report};
 use crate::stepped::Stepped;
 use si_defs::Relation;
 use si_harvest::{HarvestFault, Loaded, roll_back, take_text};
@@ -37,8 +37,8 @@ pub fn sample<K: Sink>(
     ensures faults { CountsSinkFault result (K.shown sink.old) (K.shown sink.new) }
 {
     match take_sample(alloc, index, start, count) {
-        Ok(gained) => tell_sum(alloc, index, gained, sink),
-        Err(fault) => tell(sink, load_refusal(&fault)),
+        Ok(gained) => report_sum(alloc, index, gained, sink),
+        Err(fault) => report(sink, load_refusal(&fault)),
     }
 }
 
@@ -53,7 +53,7 @@ fn take_sample(
     requires limit { index.old.rules.entries ≤ MOST_OCCURRENCES }
     ensures gained { IfOk result (λ gained. GainsSample index.old.rules start count
         index.old.clauses gained index.new.clauses) }
-    ensures fault { IfErr result (λ e. Explains index.old.rules e
+    ensures fault { IfErr result (λ e. NamesWhy index.old.rules e
         (RefusesSample index.old.rules start count index.old.clauses)) }
     ensures err { OnErr result (index.new.clauses ≡ index.old.clauses) }
     ensures rules { index.new.rules ≡ index.old.rules }
@@ -62,17 +62,17 @@ fn take_sample(
     take_text(alloc, text.as_slice(), index)
 }
 
-/// Tells how much was gained, and how much of all that is kept unifies with it. Where memory runs
+/// Reports how much was gained, and how much of all that is kept unifies with it. Where memory runs
 /// out, what was gained goes again.
-fn tell_sum<K: Sink>(alloc: Global, index: &mut Index, gained: Loaded, sink: &mut K) -> Stepped
+fn report_sum<K: Sink>(alloc: Global, index: &mut Index, gained: Loaded, sink: &mut K) -> Stepped
     requires { gained.clauses ≤ length index.old.clauses }
-    ensures told { TellsSum gained index.old.clauses index.new.clauses result
+    ensures reports { ReportsSum gained index.old.clauses index.new.clauses result
         (K.shown sink.old) (K.shown sink.new) }
     ensures rules { index.new.rules ≡ index.old.rules }
     ensures faults { CountsSinkFault result (K.shown sink.old) (K.shown sink.new) }
 {
     match sum_last(alloc, index, gained.clauses) {
-        Ok(sum) => tell(
+        Ok(sum) => report(
             sink,
             ReplyLine::Sample {
                 clauses: u64::from(gained.clauses),
@@ -82,7 +82,7 @@ fn tell_sum<K: Sink>(alloc: Global, index: &mut Index, gained: Loaded, sink: &mu
         ),
         Err(_) => {
             roll_back(index, gained.clauses);
-            tell(sink, ReplyLine::Memory)
+            report(sink, ReplyLine::Memory)
         }
     }
 }

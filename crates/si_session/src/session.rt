@@ -8,20 +8,21 @@ ghost use Rattle.si_steps.specs.Settings.{setting_of};
 ghost use Rattle.si_steps.specs.Commands.{IsSilent, add, remove, query};
 ghost use Rattle.si_steps.specs.FileWords.{names_file};
 ghost use Rattle.si_steps.specs.Runs.{a_word, a_line};
-ghost use Rattle.si_session.specs.Session.{IsFresh, Steps, KeepsFiles, CountsSinkFault, ActsOn, LoadsInto, around};
+ghost use Rattle.si_session.specs.Session.{IsFresh, Steps, CountsSinkFault, ActsOn, LoadsInto, around};
+ghost use Rattle.si_io.specs.Shown.{KeepsFiles};
 ghost use Rattle.si_session.specs.declared.stepped.Stepped.TheVariants.{Silent, Refused};
 ghost use Rattle.si_defs.specs.Clauses.{IsSoundClause, IsSoundPattern};
 ghost use Rattle.si_term.specs.Meaning.{name_of, clause_of, pattern_of};
 
-use crate::answer::tell_answer;
+use crate::answer::report_answer;
 use crate::command::{Command, read_command};
 use crate::explaining::explained_at_once;
 use crate::refusals::{load_refusal, refusal};
-use crate::reply::{ReplyLine, tell};
+use crate::reply::{ReplyLine, report};
 use crate::sample::sample;
 use crate::stepped::Stepped;
 use crate::subsumption::{subsumed, subsumers};
-use crate::trees::{explain, tell_trees};
+use crate::trees::{explain, report_trees};
 use si_defs::Relation;
 use si_harvest::{HarvestLimits, expand};
 use si_index::{Index, SearchMemory};
@@ -90,18 +91,19 @@ impl Session {
         // It answers a fault of the sink exactly where the sink counted one.
         ensures faults { CountsSinkFault result (K.shown sink.old) (K.shown sink.new) }
     {
-        // So the trees are known to hold the entries of what is kept.
+        // Called for its contract alone: the trees hold the entries of what is kept.
         self.index.trees();
         if line.len() > self.limits.line {
-            return tell(sink, ReplyLine::Long);
+            return report(sink, ReplyLine::Long);
         }
+        // An `explain` line of known symbols is answered from its tokens, without a pattern.
         if let Some(counts) = explained_at_once(self.alloc, &self.index, &mut self.memory, line) {
-            return tell(sink, ReplyLine::Explained(counts));
+            return report(sink, ReplyLine::Explained(counts));
         }
         match read_command(self.alloc, line) {
             Ok(Command::Blank) => Stepped::Silent,
-            Ok(Command::Foreign) => tell(sink, ReplyLine::Language),
-            Ok(Command::Wrong) => tell(sink, ReplyLine::Syntax),
+            Ok(Command::Foreign) => report(sink, ReplyLine::Language),
+            Ok(Command::Wrong) => report(sink, ReplyLine::Syntax),
             Ok(Command::Add(clause)) => add(&mut self.index, clause, sink),
             Ok(Command::Load(name)) => load_named(
                 self.alloc,
@@ -117,15 +119,15 @@ impl Session {
             }
             Ok(Command::Subsumers(formula)) => subsumers(&self.index, &formula, sink),
             Ok(Command::Subsumed(formula)) => subsumed(&self.index, &formula, sink),
-            Ok(Command::Stats) => tell(sink, ReplyLine::Stats(self.index.stats())),
-            Ok(Command::Tree) => tell_trees(sink, self.index.counts()),
+            Ok(Command::Stats) => report(sink, ReplyLine::Stats(self.index.stats())),
+            Ok(Command::Tree) => report_trees(sink, self.index.counts()),
             Ok(Command::Explain(relation, pattern)) => {
                 explain(&self.index, &mut self.memory, relation, &pattern, sink)
             }
             Ok(Command::Sample { start, count }) => {
                 sample(self.alloc, &mut self.index, start, count, sink)
             }
-            Err(_) => tell(sink, ReplyLine::Memory),
+            Err(_) => report(sink, ReplyLine::Memory),
         }
     }
 
@@ -152,7 +154,7 @@ impl Session {
         // As in a step.
         self.index.trees();
         if !names_file(word) {
-            return tell(sink, ReplyLine::Syntax);
+            return report(sink, ReplyLine::Syntax);
         }
         load(
             self.alloc,
@@ -188,14 +190,14 @@ fn add<K: Sink>(index: &mut Index, clause: Clause, sink: &mut K) -> Stepped
     ensures faults { CountsSinkFault result (K.shown sink.old) (K.shown sink.new) }
 {
     match index.add(clause) {
-        Ok(gained) => tell(
+        Ok(gained) => report(
             sink,
             ReplyLine::Ok {
                 clauses: 1,
                 entries: u64::from(gained),
             },
         ),
-        Err(rejected) => tell(sink, refusal(&rejected)),
+        Err(rejected) => report(sink, refusal(&rejected)),
     }
 }
 
@@ -244,14 +246,14 @@ fn load<L: Library, K: Sink>(
         depth: limits.depth,
     };
     match expand(alloc, library, name, &bounds, index) {
-        Ok(gained) => tell(
+        Ok(gained) => report(
             sink,
             ReplyLine::Ok {
                 clauses: u64::from(gained.clauses),
                 entries: u64::from(gained.entries),
             },
         ),
-        Err(fault) => tell(sink, load_refusal(&fault)),
+        Err(fault) => report(sink, load_refusal(&fault)),
     }
 }
 
@@ -263,14 +265,14 @@ fn remove<K: Sink>(index: &mut Index, name: Name, sink: &mut K) -> Stepped
     ensures faults { CountsSinkFault result (K.shown sink.old) (K.shown sink.new) }
 {
     match index.remove(&name) {
-        Some(gone) => tell(
+        Some(gone) => report(
             sink,
             ReplyLine::Ok {
                 clauses: 1,
                 entries: u64::from(gone),
             },
         ),
-        None => tell(sink, ReplyLine::Unknown(&name)),
+        None => report(sink, ReplyLine::Unknown(&name)),
     }
 }
 
@@ -289,9 +291,9 @@ fn answer<K: Sink>(
 {
     let found = match index.find(memory, index.trees(), relation, pattern) {
         Ok(found) => found,
-        Err(_) => return tell(sink, ReplyLine::Memory),
+        Err(_) => return report(sink, ReplyLine::Memory),
     };
-    match tell_answer(&found, sink) {
+    match report_answer(&found, sink) {
         Ok(()) => Stepped::Answered,
         Err(_) => Stepped::SinkFailed,
     }

@@ -12,7 +12,7 @@ ghost use Rattle.si_term.specs.Meaning.{name_of, literal_of};
 ghost use Rattle.si_session.specs.MappedClauses.{IsKeptAt, all_mapped, mapped_line};
 ghost use Rattle.si_session.specs.Session.{Writes, ActsOn, CountsSinkFault};
 
-use crate::reply::{ReplyLine, put_end, tell};
+use crate::reply::{ReplyLine, put_end, report};
 use crate::separator::{Separator, put_separator};
 use crate::stepped::Stepped;
 use si_flat::LitMap;
@@ -75,7 +75,7 @@ fn put_answer<K: Sink>(index: &Index, found: &Mappeds, sink: &mut K) -> Result<(
 }
 
 /// Writes the answer, and says what became of the line.
-fn tell_mapped<K: Sink>(index: &Index, found: &Mappeds, sink: &mut K) -> Stepped
+fn report_mapped<K: Sink>(index: &Index, found: &Mappeds, sink: &mut K) -> Stepped
     requires { AllByRecursion (IsKeptAt index.now.clauses) found.now }
     ensures written { Writes result (mapped_reply (all_mapped index.now.clauses found.now))
         (K.shown sink.old) (K.shown sink.new) }
@@ -95,8 +95,8 @@ pub fn subsumers<K: Sink>(index: &Index, formula: &Literals, sink: &mut K) -> St
     ensures faults { CountsSinkFault result (K.shown sink.old) (K.shown sink.new) }
 {
     match index.subsumers(formula) {
-        Ok(found) => tell_mapped(index, &found, sink),
-        Err(_) => tell(sink, ReplyLine::Memory),
+        Ok(found) => report_mapped(index, &found, sink),
+        Err(_) => report(sink, ReplyLine::Memory),
     }
 }
 
@@ -108,7 +108,7 @@ pub fn subsumed<K: Sink>(index: &Index, formula: &Literals, sink: &mut K) -> Ste
     ensures faults { CountsSinkFault result (K.shown sink.old) (K.shown sink.new) }
 {
     match index.subsumed(formula) {
-        Ok(found) => tell_mapped(index, &found, sink),
-        Err(_) => tell(sink, ReplyLine::Memory),
+        Ok(found) => report_mapped(index, &found, sink),
+        Err(_) => report(sink, ReplyLine::Memory),
     }
 }

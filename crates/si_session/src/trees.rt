@@ -5,13 +5,13 @@ ghost use Rattle.si_steps.specs.Runs.{ended};
 ghost use Rattle.si_io.specs.Sends.{Sends};
 ghost use Rattle.si_term.specs.Meaning.{pattern_of};
 ghost use Rattle.si_session.specs.Session.{Writes, CountsSinkFault};
-ghost use Rattle.si_session.specs.Explained.{TellsExplained};
+ghost use Rattle.si_session.specs.Explained.{ReportsExplained};
 ghost use Rattle.si_session.specs.Replies.{counts_reply};
 ghost use Rattle.si_session.specs.Separators.{separator_text};
 ghost use Rattle.si_session.specs.ShortReplies.{tree_text};
 ghost use Rattle.si_session.specs.declared.separator.Separator.TheVariants.{LineFeed};
 
-use crate::reply::{ReplyLine, put_three, tell};
+use crate::reply::{ReplyLine, put_three, report};
 use crate::separator::{Separator, put_separator};
 use crate::short_reply::ShortReply;
 use crate::stepped::Stepped;
@@ -22,7 +22,7 @@ use si_term::Pattern;
 use si_tree::Counts;
 
 /// Writes the numbers of nodes of both trees, a line each.
-pub fn tell_trees<K: Sink>(sink: &mut K, counts: TreeCounts) -> Stepped
+pub fn report_trees<K: Sink>(sink: &mut K, counts: TreeCounts) -> Stepped
     ensures written { Writes result (counts_reply counts) (K.shown sink.old) (K.shown sink.new) }
     ensures faults { CountsSinkFault result (K.shown sink.old) (K.shown sink.new) }
 {
@@ -74,12 +74,12 @@ pub fn explain<K: Sink>(
     sink: &mut K,
 ) -> Stepped
     requires { IsSoundPattern (pattern_of pattern.now) }
-    ensures tells { TellsExplained index.now relation (pattern_of pattern.now) result
+    ensures reports { ReportsExplained index.now relation (pattern_of pattern.now) result
         (K.shown sink.old) (K.shown sink.new) }
     ensures faults { CountsSinkFault result (K.shown sink.old) (K.shown sink.new) }
 {
     match index.explain(memory, relation, pattern) {
-        Ok(explained) => tell(sink, ReplyLine::Explained(explained)),
-        Err(_) => tell(sink, ReplyLine::Memory),
+        Ok(explained) => report(sink, ReplyLine::Explained(explained)),
+        Err(_) => report(sink, ReplyLine::Memory),
     }
 }

@@ -240,7 +240,7 @@ agrees_known t facts s k c known there is = all_from (λ r. Clashes s r → ⊥)
     clash.differ (ap (λ (q : Symbol). q.side) e) (ap (λ (q : Symbol). q.arity) e))
 
 pub refuses_known : (begin : ℕ) (t : Uses) → IsUses t → (s : Symbol) (k : ℕ) (c : CountedSymbol) (e : Clash) → key_in t s.kind s.text ≡ Some k → get t.slots k ≡ Some c
-    → (same_side s.side c.sym.side && s.arity == c.sym.arity) ≡ false → e.found ≡ shape_of s → e.kept ≡ shape_of (symbol_of c.sym) → begin + e.entry ≡ t.total
+    → (same_side s.side c.sym.side && s.arity == c.sym.arity) ≡ false → e.found ≡ shape_of s → e.kept ≡ shape_of (symbol_of c.sym) → begin + e.occurrence ≡ t.total
     → RefusesFrom begin (seen t) (s ∷ []) (take_fault.Clash e)
 refuses_known begin t facts s k c e known there other found kept position =
     let of = known_slot t facts s k c known there in (

@@ -19,7 +19,7 @@ HasShapes c found kept = (c.found ≡ shape_of found) × (c.kept ≡ shape_of ke
 abbrev pub NamesFirstClash : List Symbol → List Symbol → Clash → Type 0
 NamesFirstClash known own c =
     (found : Symbol) × (kept : Symbol)
-    × IsFirstClash known own c.entry found kept × HasShapes c found kept
+    × IsFirstClash known own c.occurrence found kept × HasShapes c found kept
 
 -- why symbols aren't taken: the first of them that clashes is named, or memory ran out
 abbrev pub RefusesSymbols : List Symbol → List Symbol → TakeFault → Type 0

@@ -22,7 +22,7 @@ pub record IsStored (rules : Rules) (clauses : List Clause) : Type 0 where
 abbrev pub Rejects : Rules → List Clause → Clause → AddFault → Type 0
 Rejects rules clauses clause add_fault.Taken = Refuses rules clauses clause taken
 Rejects rules clauses clause (add_fault.Clash c) =
-    (found : Symbol) × (kept : Symbol) × Refuses rules clauses clause (misused c.entry found kept)
+    (found : Symbol) × (kept : Symbol) × Refuses rules clauses clause (misused c.occurrence found kept)
     × HasShapes c found kept
 Rejects rules clauses clause (add_fault.Full n most) =
     Refuses rules clauses clause (full n) × (most ≡ rules.entries)

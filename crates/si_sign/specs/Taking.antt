@@ -26,5 +26,5 @@ abbrev pub RefusesFrom : ℕ → Signature → List Symbol → TakeFault → Typ
 RefusesFrom begin old own (take_fault.Clash c) =
     (number : ℕ) × (found : Symbol) × (kept : Symbol)
     × IsFirstClash (known_symbols old) own number found kept × HasShapes c found kept
-    × (begin + c.entry ≡ total old + number)
+    × (begin + c.occurrence ≡ total old + number)
 RefusesFrom begin old own take_fault.Memory = Unit {0}

@@ -14,9 +14,9 @@ pub struct Shape {
 /// A symbol that is used as two things.
 #[derive(Clone, Copy, Debug, PartialEq, Eq)]
 pub struct Clash {
-    /// The number from 0 of the clause's entry that the symbol heads.
-    pub entry: u32,
-    /// What it is there.
+    /// The number from 0 of the symbol's occurrence, among those of symbols in the clause.
+    pub occurrence: u32,
+    /// What the symbol is there.
     pub found: Shape,
     /// What it is in a kept clause, or earlier in this one.
     pub kept: Shape,

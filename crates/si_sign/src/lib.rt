@@ -8,6 +8,7 @@ pub mod faults;
 pub mod hashed;
 mod keys;
 mod kinds;
+mod names;
 mod plain;
 mod recent;
 mod short;
@@ -19,6 +20,7 @@ mod walk;
 
 pub use faults::{AddFault, Clash, Rejected, Shape, TakeFault};
 pub use hashed::HashedKeys;
+pub use names::is_same_name;
 pub use plain::PlainStore;
 pub use short::ShortStore;
 pub use signature::Signature;

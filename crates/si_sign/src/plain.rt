@@ -1,5 +1,5 @@
 // A plain list of clauses, through all of which each call looks.
-ghost use Rattle.std.specs.Prelude.{◌≡◌, ◌≤◌, ℕ, [], ◌∷◌, ◌++◌, length, map, slice_get, Some, IsTrue, ◌↔◌, IfOk, OnOk, IfErr, IfSome, IfNone};
+ghost use Rattle.std.specs.Prelude.{◌≡◌, ◌≤◌, ℕ, [], ◌∷◌, ◌++◌, length, map, slice_get, Some, IfOk, OnOk, IfErr, IfSome, IfNone};
 ghost use Rattle.std.specs.List.{AllByRecursion};
 ghost use Rattle.si_defs.specs.Clauses as defs;
 ghost use Rattle.si_defs.specs.Clauses.{IsSoundClause};
@@ -17,9 +17,10 @@ ghost use Rattle.si_sign.specs.Stores.{IsStored, Rejects};
 ghost use Rattle.si_sign.specs.Plain.{lent_symbols, is_clash};
 
 use crate::faults::{AddFault, Clash, Rejected, Shape};
+use crate::names::is_same_name;
 use crate::store::ClauseStore;
 use crate::uses::{has_shape_of, shape};
-use si_defs::{NameKind, SymKind};
+use si_defs::SymKind;
 use si_term::{Clause, Name, Sym, entry_count, symbols_of};
 use std::alloc::{AllocError, Global};
 use std::marker::Model;
@@ -208,13 +209,21 @@ fn first_clash(known: &[&Sym], own: &[&Sym]) -> Option<Clash>
 {
     for i in 0..own.len() {
         let symbol = own[i];
-        let entry = i as u32;
+        let occurrence = i as u32;
         let found = shape(symbol);
         if let Some(kept) = find_clash(symbol, known) {
-            return Some(Clash { entry, found, kept });
+            return Some(Clash {
+                occurrence,
+                found,
+                kept,
+            });
         }
         if let Some(kept) = find_clash(symbol, &own[..i]) {
-            return Some(Clash { entry, found, kept });
+            return Some(Clash {
+                occurrence,
+                found,
+                kept,
+            });
         }
     }
     None
@@ -254,14 +263,4 @@ fn is_same_kind(kind: SymKind, other: SymKind) -> bool
         SymKind::Distinct => matches!(other, SymKind::Distinct),
         SymKind::Equal => matches!(other, SymKind::Equal),
     }
-}
-
-fn is_same_name(name: &Name, other: &Name) -> bool
-    ensures { IsTrue result ↔ (name_of name.now ≡ name_of other.now) }
-{
-    let same_kind = match name.kind {
-        NameKind::Word => matches!(other.kind, NameKind::Word),
-        NameKind::Int => matches!(other.kind, NameKind::Int),
-    };
-    same_kind && name.text.as_bytes() == other.text.as_bytes()
 }

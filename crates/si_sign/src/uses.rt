@@ -110,7 +110,7 @@ impl Uses {
         let kept = &self.slots[key].sym;
         if !has_shape_of(symbol, kept) {
             return Err(TakeFault::Clash(Clash {
-                entry: (self.total - begin) as u32,
+                occurrence: (self.total - begin) as u32,
                 found: shape(symbol),
                 kept: shape(kept),
             }));

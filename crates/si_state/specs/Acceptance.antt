@@ -35,11 +35,12 @@ AllAgree known [] = Unit {0}
 AllAgree known (s ∷ ss) = Agrees known s × AllAgree (known ++ s ∷ []) ss
 
 -- the first of them that doesn't, how many stand before it, and a symbol that it clashes with
-pub record IsFirstClash (known own : List Symbol) (number : ℕ) (found kept : Symbol) : Type 0 where
+pub record IsFirstClash (known own : List Symbol) (occurrence : ℕ)
+    (found kept : Symbol) : Type 0 where
   pub before : List Symbol
   pub after : List Symbol
   pub splits : own ≡ before ++ found ∷ after
-  pub position : number ≡ length before
+  pub position : occurrence ≡ length before
   pub earlier : AllAgree known before
   pub against : IsAmong (known ++ before) kept
   pub clashes : Clashes found kept
@@ -57,9 +58,9 @@ pub record Accepts (rules : Rules) (clauses : List Clause) (clause : Clause)
   pub room : needed clauses clause ≤ rules.entries
   pub added : new ≡ clauses ++ clause ∷ []
 
--- why a clause is refused: its name is taken; the head of the entry with this number from 0 is one
--- symbol, and another one of its kind and text stands against it; or so many entries would be too
--- many
+-- Why a clause is refused: its name is taken; a symbol of it is misused, and clashes with another
+-- one; or so many entries would be too many. A misused symbol goes by its occurrence: by the number,
+-- from 0, that it has among the occurrences of symbols in the clause, whatever the entries are.
 pub data Refusal : Type 0 where
   taken : Refusal
   misused : ℕ → Symbol → Symbol → Refusal
@@ -68,9 +69,9 @@ pub data Refusal : Type 0 where
 -- the first reason that there is
 abbrev pub Refuses : Rules → List Clause → Clause → Refusal → Type 0
 Refuses rules clauses clause taken = IsTaken clauses clause.name
-Refuses rules clauses clause (misused number found kept) =
+Refuses rules clauses clause (misused occurrence found kept) =
     (IsTaken clauses clause.name → ⊥)
-    × IsFirstClash (state_symbols clauses) (clause_symbols clause) number found kept
+    × IsFirstClash (state_symbols clauses) (clause_symbols clause) occurrence found kept
 Refuses rules clauses clause (full n) =
     (IsTaken clauses clause.name → ⊥) × AllAgree (state_symbols clauses) (clause_symbols clause)
     × (rules.entries < needed clauses clause) × (n ≡ needed clauses clause)

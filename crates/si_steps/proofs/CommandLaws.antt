@@ -1,4 +1,4 @@
--- A command is told by its word: each word has one kind of command, and its operands.
+-- A command is known by its word: each word has one kind of command, and its operands.
 use Rattle.std.proofs.Common.{◌≡◌, ℕ, List, [], ◌∷◌, refl, sym, ap, subst}
 use Rattle.si_defs.specs.Bytes.{Bytes}
 use Rattle.si_defs.specs.Clauses.{Name, Literal, Clause, Pattern}
@@ -6,7 +6,7 @@ use Rattle.si_defs.specs.Tokens.{Token, lower}
 use Rattle.si_defs.specs.declared.TokenKind.TheVariants.{Single}
 use Rattle.si_defs.specs.declared.Relation.{Relation}
 use Rattle.si_defs.specs.Grammar.{IsName, IsClause, IsFormula}
-use Rattle.si_defs.proofs.ListLaws.{same_head, same_tail}
+use Rattle.si_defs.proofs.ListLaws.{same_first, same_tail}
 use Rattle.si_state.specs.Samples.{AllowsSample}
 use Rattle.si_steps.specs.declared.word.Word.{Word}
 use Rattle.si_steps.specs.declared.word.Word.TheVariants.{Add, Load, Remove, Ask, Subsumers, Subsumed, Stats, Tree, Explain, Sample}
@@ -43,7 +43,7 @@ is_of (sample start count) ts (drawable, e) = (start, count, refl, drawable, e)
 
 pub of_word : (w : Word) (c : Command) (ts : List Token) → IsCommand c (lower (command_text w) ∷ ts) → IsOf w c ts
 of_word w c ts h =
-    let word = same_word (command_word c) w (ap (λ (t : Token). t.text) (same_head (sym h.whole))) in
+    let word = same_word (command_word c) w (ap (λ (t : Token). t.text) (same_first (sym h.whole))) in
     subst (IsOf w c) (same_tail (sym h.whole)) (subst (λ v. IsOf v c h.operands) word (is_of c h.operands h.spelled))
 
 -- no two relations have the same text

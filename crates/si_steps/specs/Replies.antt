@@ -76,16 +76,16 @@ unknown_line name = codes "! unknown " ++ name_text name
 -- why the clause of this name is refused where so many entries may be
 abbrev pub refusal_line : ℕ → Name → Refusal → Bytes
 refusal_line limit name taken = taken_line name
-refusal_line limit name (misused number found kept) = misused_line found kept
+refusal_line limit name (misused occurrence found kept) = misused_line found kept
 refusal_line limit name (full needed) = full_line needed limit
 
 -- a word, and the name of a file
 abbrev pub file_line : Bytes → Bytes → Bytes
 file_line word file = word ++ file_text file
 
--- the same, and a line of it
-abbrev pub spot_line : Bytes → Bytes → ℕ → Bytes
-spot_line word file line = file_line word file ++ codes " " ++ decimal line
+-- the same, and the number of a line of it
+abbrev pub numbered_line : Bytes → Bytes → ℕ → Bytes
+numbered_line word file line = file_line word file ++ codes " " ++ decimal line
 
 abbrev pub fetches_line : Bytes
 fetches_line = codes "! fetches"
@@ -98,8 +98,8 @@ fault_line limit too_many = fetches_line
 fault_line limit (missing file) = file_line (codes "! missing ") file
 fault_line limit (too_big file) = file_line (codes "! big ") file
 fault_line limit (failed file) = file_line (codes "! fault ") file
-fault_line limit (foreign file line) = spot_line (codes "! language ") file line
-fault_line limit (malformed file line) = spot_line (codes "! syntax ") file line
+fault_line limit (foreign file line) = numbered_line (codes "! language ") file line
+fault_line limit (malformed file line) = numbered_line (codes "! syntax ") file line
 fault_line limit (rejected clause why) = refusal_line limit clause.name why
 
 abbrev pub long_line : Bytes

@@ -10,7 +10,8 @@ use Rattle.si_flat.specs.Cells.{query, entry, ind, Term, Terms, cells_of, cells_
 use Rattle.si_unify.specs.Spots.{IsAt}
 use Rattle.si_unify.proofs.Places.{at_unique, whole_at}
 use Rattle.si_unify.proofs.Binding.{cut_stands}
-use Rattle.si_subsume.specs.Maps.{arguments, arity_of, IsNoVariable, HasHeads, StandForAll}
+use Rattle.si_defs.specs.Terms.{arguments}
+use Rattle.si_subsume.specs.Maps.{arity_of, IsNoVariable, HasHeads, StandForAll}
 use Rattle.si_unify.specs.declared.slots.Slots.{Slots}
 use Rattle.si_unify.specs.Solving.{CellIsInRange, AreInRange}
 use Rattle.si_unify.proofs.Rows.{join-more, join-none}

@@ -16,8 +16,7 @@ use Rattle.si_trail.specs.Trails.{Trail}
 use Rattle.si_unify.specs.declared.slots.Slots.{Slots}
 use Rattle.si_unify.specs.Solving.{Pairs, Equalizes, IsBinding, RanksBelow, IsSolution, HaveCommon, AllowsSolving}
 use Rattle.si_subsume.specs.declared.search.Choice.{Choice}
-use Rattle.si_subsume.specs.Search.{Slices, CanEnd, number_of, IsLeastSearch, IsChosen, AreChosen, AreTried, IsUnderway, IsDead, NextNumber, turns_left, GoesOnFrom, FindsTarget, IsFirstTarget}
-use Rattle.si_subsume.proofs.Turns.{turns_popped, turns_pushed}
+use Rattle.si_subsume.specs.Search.{Slices, CanEnd, number_of, IsLeastSearch, IsChosen, AreChosen, AreTried, IsUnderway, IsDead, NextNumber, GoesOnFrom, FindsTarget, IsFirstTarget}
 
 pub compare : (m n : ℕ) → (m < n) ⊎ ((m ≡ n) ⊎ (n < m))
 compare zero zero = inr (inl refl)
@@ -260,18 +259,16 @@ module _ (slots : Slots) (targets literals : Slices) (pairs : Pairs) where
   pub retreated : (all choices : List Choice) (choice : Choice) (mark next : ℕ) (undone : Pairs) (from : ℕ)
       → IsDead slots targets literals all pairs
       → all ≡ choices ++ choice ∷ []
-      → length all < length literals
       → mark ≡ length pairs
       → NextNumber choice mark (length targets) next
       → undone ≡ take choice.mark pairs
-      → GoesOnFrom slots literals targets (turns_left (length targets) all from (length literals)) choices undone (Some next)
-  retreated all choices choice mark next undone from h is more mark_is number undone_is =
+      → GoesOnFrom slots literals targets all from choices undone (Some next)
+  retreated all choices choice mark next undone from h is mark_is number undone_is =
       let d = dead_last all choices choice h is in
       let back : undone ≡ d.last.before = undone_is ∙ bound_before d.last.before pairs choice.mark d.last.chosen.grows d.last.chosen.mark in
-      let tried = tried_again slots targets d.last.before pairs d.last.literal d.left choice (length targets) next d.last.chosen d.dead (subst (λ k. NextNumber choice k (length targets) next) mark_is number) in
-      let fewer : turns_left (length targets) choices next (length literals) < turns_left (length targets) (choices ++ choice ∷ []) from (length literals) = turns_popped (length targets) from next (length literals) choices choice (omega (arith, more, ap length is)) number.0 in (
+      let tried = tried_again slots targets d.last.before pairs d.last.literal d.left choice (length targets) next d.last.chosen d.dead (subst (λ k. NextNumber choice k (length targets) next) mark_is number) in (
         subst (λ p. IsUnderway slots targets literals choices p next) (sym back) (d.last.literal ∷ d.left, d.last.chosen_before, tried),
-        subst (λ cs. turns_left (length targets) choices next (length literals) < turns_left (length targets) cs from (length literals)) (sym is) fewer,
+        inr (choice, is, number.0),
       )
 
   pub ready_again : (all choices : List Choice) (choice : Choice) (undone : Pairs) (count : ℕ)
@@ -314,12 +311,11 @@ module _ (slots : Slots) (targets literals : Slices) (choices : List Choice) (ol
       → IsFirstTarget slots targets old new here.now from choice.number
       → choice.mark ≡ length old
       → after ≡ choices ++ choice ∷ []
-      → GoesOnFrom slots literals targets (turns_left (length targets) choices from (length literals)) after new (Some 0)
+      → GoesOnFrom slots literals targets choices from after new (Some 0)
   turn_chosen choice after found mark is =
-      let chosen = pushed slots targets [] literals choices here rest old new choice chosen_here (chosen_with slots targets old new here rest from choice tried_here found mark) in
-      let fewer : turns_left (length targets) (choices ++ choice ∷ []) 0 (length literals) < turns_left (length targets) choices from (length literals) = turns_pushed (length targets) from (length literals) choices choice some found.at_least (slice_get_within targets choice.number found.target found.target_is) in (
+      let chosen = pushed slots targets [] literals choices here rest old new choice chosen_here (chosen_with slots targets old new here rest from choice tried_here found mark) in (
         (rest, subst (λ cs. AreChosen slots targets [] literals cs rest new) (sym is) chosen, λ n ns less can. omega (arith, less)),
-        subst (λ cs. turns_left (length targets) cs 0 (length literals) < turns_left (length targets) choices from (length literals)) (sym is) fewer,
+        inl (choice, is, found.at_least, slice_get_within targets choice.number found.target found.target_is, refl),
       )
 
 -- ---- the whole search

@@ -26,7 +26,8 @@ use Rattle.si_flat.proofs.FirstPlaces.{among_firsts, firsts_among}
 use Rattle.si_term.proofs.Inserted.{inserted-firsts, inserted_length}
 use Rattle.si_flat.proofs.Walking.{variables_few}
 use Rattle.si_unify.proofs.Reading.{one_term}
-use Rattle.si_subsume.specs.Maps.{arguments, IsCellOf, AreOf, IsNoVariable, HasHeads, IsFlatMap, AnswersFlat, IsComparable}
+use Rattle.si_defs.specs.Terms.{arguments}
+use Rattle.si_subsume.specs.Maps.{IsCellOf, AreOf, IsNoVariable, HasHeads, IsFlatMap, AnswersFlat, IsComparable}
 use Rattle.si_subsume.proofs.Texts.{IsPlaced, pattern_variable, entry_variable, flat_literal, raise, raised_stays, lower, lefts_lowered, literal_raised, literal_lowered}
 use Rattle.si_subsume.proofs.FlatMaps.{least_same}
 

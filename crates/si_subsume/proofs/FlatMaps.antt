@@ -14,7 +14,8 @@ use Rattle.si_flat.specs.Cells.{Symbol, Variable, query, entry, ind, same_variab
 use Rattle.si_unify.specs.declared.slots.Slots.{Slots}
 use Rattle.si_unify.specs.Solving.{slot_of, is_frozen, Equalizes}
 use Rattle.si_unify.proofs.Reading.{one_term}
-use Rattle.si_subsume.specs.Maps.{arguments, IsFlatMap, AnswersFlat, AreOf, StandForAll}
+use Rattle.si_defs.specs.Terms.{arguments}
+use Rattle.si_subsume.specs.Maps.{IsFlatMap, AnswersFlat, AreOf, StandForAll}
 use Rattle.si_subsume.specs.Parts.{AreFixed}
 use Rattle.si_subsume.specs.Search.{Slices, CanEnd, AnswersSlices}
 

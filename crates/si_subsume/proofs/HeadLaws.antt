@@ -10,7 +10,7 @@ use Rattle.std.specs.Borrow.{Bor}
 use Rattle.si_defs.proofs.BoolLaws.{agreed}
 use Rattle.si_flat.specs.declared.Cell.{Cell}
 use Rattle.si_subsume.specs.declared.heads.Head.{Head}
-use Rattle.si_subsume.specs.Heads.{same_head, slice_head, first_in, nexts, IsFirstBy}
+use Rattle.si_subsume.specs.Heads.{equal_heads, slice_head, first_in, nexts, IsFirstBy}
 use Rattle.si_subsume.specs.Search.{Slices}
 
 -- ---- the index is built from the last target on
@@ -21,7 +21,7 @@ pub record IsIndexing (entries : List (Head × ℕ)) (next : List ℕ) (targets 
 pub indexing_start : (entries : List (Head × ℕ)) (next : List ℕ) (targets : Slices) → entries ≡ [] → next ≡ [] → IsIndexing entries next targets 0
 indexing_start entries next targets none none_next = record {
   first = λ h.
-      ap (λ es. unwrap_or (lookup (same_head h) es) (length targets)) none
+      ap (λ es. unwrap_or (lookup (equal_heads h) es) (length targets)) none
       ∙ sym (ap (λ bs. first_in (length targets) (length targets - 0) bs h) (drop_of_length-le targets (omega arith)));
   nexts_are = ap reverse none_next ∙ sym (ap (nexts (length targets) (length targets - 0)) (drop_of_length-le targets (omega arith)));
 }
@@ -30,8 +30,8 @@ pub indexing_more : (old new : List (Head × ℕ)) (next after : List ℕ) (targ
     → IsIndexing old next targets behind
     → behind < length targets
     → number ≡ length targets - 1 - behind
-    → later ≡ lookup (same_head (slice_head (get_or targets number d))) old
-    → ((h : Head) → lookup (same_head h) new ≡ cond (same_head (slice_head (get_or targets number d)) h) (Some number) (lookup (same_head h) old))
+    → later ≡ lookup (equal_heads (slice_head (get_or targets number d))) old
+    → ((h : Head) → lookup (equal_heads h) new ≡ cond (equal_heads (slice_head (get_or targets number d)) h) (Some number) (lookup (equal_heads h) old))
     → after ≡ next ++ unwrap_or later (length targets) ∷ []
     → IsIndexing new after targets (behind + 1)
 indexing_more old new next after targets behind number later d h less number_is later_is updates pushed =
@@ -43,9 +43,9 @@ indexing_more old new next after targets behind number later d h less number_is 
     record {
       first = λ g.
           ap (λ o. unwrap_or o end) (updates g)
-          ∙ by (same_head (slice_head (get_or targets number d)) g) (lookup (same_head g) old) number
+          ∙ by (equal_heads (slice_head (get_or targets number d)) g) (lookup (equal_heads g) old) number
           ∙ (λ i. cond (swapped (slice_head (get_or targets number d)) g i) number (h.first g i))
-          ∙ ap (λ k. cond (same_head g (slice_head (get_or targets number d))) number (first_in end k (drop (end - behind) targets) g)) (sym above)
+          ∙ ap (λ k. cond (equal_heads g (slice_head (get_or targets number d))) number (first_in end k (drop (end - behind) targets) g)) (sym above)
           ∙ sym (λ i. first_in end (start i) (whole split start i) g);
       nexts_are =
           ap reverse pushed
@@ -66,24 +66,24 @@ indexing_more old new next after targets behind number later d h less number_is 
     flipped : (m n : ℕ) → (m == n) ≡ (n == m)
     flipped m n = agreed (m == n) (n == m) (λ e. eq-eqb n m (sym (eqb-true m n e))) (λ e. eq-eqb m n (sym (eqb-true n m e)))
 
-    swapped : (h g : Head) → same_head h g ≡ same_head g h
+    swapped : (h g : Head) → equal_heads h g ≡ equal_heads g h
     swapped h g = λ i. flipped h.sym g.sym i && flipped h.arity g.arity i
 
 -- ---- what is passed over
 -- no slice before the first one with the head has it
-pub skipped : (end k : ℕ) (bs : Slices) (h : Head) (i : ℕ) (b : Bor (List Cell)) → slice_get bs i ≡ Some b → k + i < first_in end k bs h → same_head h (slice_head b) ≡ false
+pub skipped : (end k : ℕ) (bs : Slices) (h : Head) (i : ℕ) (b : Bor (List Cell)) → slice_get bs i ≡ Some b → k + i < first_in end k bs h → equal_heads h (slice_head b) ≡ false
 skipped end k [] h i b e less = cc
-skipped end k (c ∷ bs) h zero b e less = by (same_head h (slice_head c)) refl less
+skipped end k (c ∷ bs) h zero b e less = by (equal_heads h (slice_head c)) refl less
   where
     same : c ≡ b
     same = cc
 
-    by : (t : Bool) → same_head h (slice_head c) ≡ t → k + 0 < cond t k (first_in end (suc k) bs h) → same_head h (slice_head b) ≡ false
+    by : (t : Bool) → equal_heads h (slice_head c) ≡ t → k + 0 < cond t k (first_in end (suc k) bs h) → equal_heads h (slice_head b) ≡ false
     by true is less = absurd (omega (arith, less))
-    by false is less = ap (λ z. same_head h (slice_head z)) (sym same) ∙ is
-skipped end k (c ∷ bs) h (suc i) b e less = by (same_head h (slice_head c)) less (skipped end (suc k) bs h i b e)
+    by false is less = ap (λ z. equal_heads h (slice_head z)) (sym same) ∙ is
+skipped end k (c ∷ bs) h (suc i) b e less = by (equal_heads h (slice_head c)) less (skipped end (suc k) bs h i b e)
   where
-    by : (t : Bool) → k + suc i < cond t k (first_in end (suc k) bs h) → (suc k + i < first_in end (suc k) bs h → same_head h (slice_head b) ≡ false) → same_head h (slice_head b) ≡ false
+    by : (t : Bool) → k + suc i < cond t k (first_in end (suc k) bs h) → (suc k + i < first_in end (suc k) bs h → equal_heads h (slice_head b) ≡ false) → equal_heads h (slice_head b) ≡ false
     by true less rest = absurd (omega (arith, less))
     by false less rest = rest (omega (arith, less))
 
@@ -93,13 +93,13 @@ pub record IsHit (k : ℕ) (bs : Slices) (h : Head) (n : ℕ) : Type 0 where
   pub number : n ≡ k + place
   pub slice : Bor (List Cell)
   pub slice_is : slice_get bs place ≡ Some slice
-  pub has : same_head h (slice_head slice) ≡ true
+  pub has : equal_heads h (slice_head slice) ≡ true
 
 pub hit : (end k : ℕ) (bs : Slices) (h : Head) → first_in end k bs h < end → IsHit k bs h (first_in end k bs h)
 hit end k [] h less = absurd (omega (arith, less))
-hit end k (c ∷ bs) h less = by (same_head h (slice_head c)) refl less (hit end (suc k) bs h)
+hit end k (c ∷ bs) h less = by (equal_heads h (slice_head c)) refl less (hit end (suc k) bs h)
   where
-    by : (t : Bool) → same_head h (slice_head c) ≡ t → cond t k (first_in end (suc k) bs h) < end → (first_in end (suc k) bs h < end → IsHit (suc k) bs h (first_in end (suc k) bs h)) → IsHit k (c ∷ bs) h (cond t k (first_in end (suc k) bs h))
+    by : (t : Bool) → equal_heads h (slice_head c) ≡ t → cond t k (first_in end (suc k) bs h) < end → (first_in end (suc k) bs h < end → IsHit (suc k) bs h (first_in end (suc k) bs h)) → IsHit k (c ∷ bs) h (cond t k (first_in end (suc k) bs h))
     by true is less rest = record { place = 0; number = omega arith; slice = c; slice_is = refl; has = is }
     by false is less rest =
         let r = rest less in
@@ -132,7 +132,7 @@ got_behind (b ∷ bs) (suc n) i = got_behind bs n i ∙ ap (slice_get (b ∷ bs)
     plus n i = omega arith
 
 -- heads that are told the same are the same
-pub heads_same : (h g : Head) → same_head h g ≡ true → h ≡ g
+pub heads_same : (h g : Head) → equal_heads h g ≡ true → h ≡ g
 heads_same h g e = by (h.sym == g.sym) refl (h.arity == g.arity) refl e
   where
     by : (a : Bool) → (h.sym == g.sym) ≡ a → (b : Bool) → (h.arity == g.arity) ≡ b → (a && b) ≡ true → h ≡ g

@@ -15,13 +15,13 @@ use Rattle.si_unify.specs.declared.slots.Slots.{Slots}
 use Rattle.si_unify.specs.Solving.{Pairs, Equalizes, IsSolution, IsCommon, HasSolved, HaveCommon}
 use Rattle.si_subsume.specs.declared.heads.Head.{Head}
 use Rattle.si_subsume.specs.Search.{Slices, CanEnd, IsSymbolCell, IsFlatLiteral, AreFlatLiterals, HaveOtherHeads, IsFirstTarget, FindsTarget}
-use Rattle.si_subsume.specs.Heads.{head_of, same_head, first_cell, slice_head, first_in, nexts, IsFirstToTry, TakesFrom}
+use Rattle.si_subsume.specs.Heads.{head_of, equal_heads, first_cell, slice_head, first_in, nexts, IsFirstToTry, TakesFrom}
 use Rattle.si_subsume.proofs.Unequal.{never_equal, term_read}
 use Rattle.si_subsume.proofs.HeadLaws.{skipped, hit, next_at, got_behind, heads_same}
 use Rattle.si_subsume.proofs.Choices.{compare}
 
 -- ---- other heads
-other_heads : (c d : Cell) → IsSymbolCell c → IsSymbolCell d → same_head (head_of c) (head_of d) ≡ false → HaveOtherHeads c d
+other_heads : (c d : Cell) → IsSymbolCell c → IsSymbolCell d → equal_heads (head_of c) (head_of d) ≡ false → HaveOtherHeads c d
 other_heads (cell.App s a m) (cell.App r b n) h k e = λ p.
     let both : (s == r && a == b) ≡ true = (λ i. eq-eqb s r p.0 i && eq-eqb a b p.1 i) in
     let bad : true ≡ false = sym both ∙ e in cc
@@ -36,7 +36,7 @@ abbrev literal_head : List Cell → Head
 literal_head literal = head_of (first_cell literal)
 
 module _ (slots : Slots) (targets : Slices) (pairs : Pairs) (literal : List Cell) (term : IsFlatLiteral slots literal) (terms : AreFlatLiterals slots targets) where
-  pub never_there : (n : ℕ) (other : Bor (List Cell)) → slice_get targets n ≡ Some other → same_head (literal_head literal) (slice_head other) ≡ false → HaveCommon slots pairs literal other.now → ⊥
+  pub never_there : (n : ℕ) (other : Bor (List Cell)) → slice_get targets n ≡ Some other → equal_heads (literal_head literal) (slice_head other) ≡ false → HaveCommon slots pairs literal other.now → ⊥
   never_there n other got differs common =
       let k = all_got (λ b. IsFlatLiteral slots b.now) targets n other terms got in
       never_equal slots pairs literal other.now term.whole k.whole (other_heads (first_cell literal) (first_cell other.now) term.headed k.headed differs) common
@@ -51,7 +51,7 @@ first_of_all targets h from number is = record {
       let place : number ≡ there.place = omega (arith, is, there.number) in
       let same : Some b ≡ Some there.slice = sym got ∙ ap (slice_get targets) place ∙ there.slice_is in
       let slice : b ≡ there.slice = cc in
-      ap (λ (z : Bor (List Cell)). same_head h (slice_head z)) slice ∙ there.has;
+      ap (λ (z : Bor (List Cell)). equal_heads h (slice_head z)) slice ∙ there.has;
 }
 
 -- the next one after a target with the head
@@ -64,13 +64,13 @@ first_behind targets h before next here got_here head is =
           let place : suc before + (k - suc before) ≡ k = omega (arith, at_least) in
           let behind : slice_get (drop (suc before) targets) (k - suc before) ≡ Some other = got_behind targets (suc before) (k - suc before) ∙ ap (slice_get targets) place ∙ got in
           let differs = skipped (length targets) (suc (0 + before)) (drop (suc before) targets) (slice_head here) (k - suc before) other behind (omega (arith, place, below, next_is)) in
-          ap (λ q. same_head q (slice_head other)) head ∙ differs;
+          ap (λ q. equal_heads q (slice_head other)) head ∙ differs;
       has = λ b got.
           let hits = hit (length targets) (suc (0 + before)) (drop (suc before) targets) (slice_head here) (omega (arith, next_is, slice_get_within targets next b got)) in
           let place : next ≡ suc before + hits.place = omega (arith, next_is, hits.number) in
           let same : Some b ≡ Some hits.slice = sym got ∙ ap (slice_get targets) place ∙ sym (got_behind targets (suc before) hits.place) ∙ hits.slice_is in
           let slice : b ≡ hits.slice = cc in
-          ap (λ (z : Bor (List Cell)). same_head h (slice_head z)) slice ∙ ap (λ q. same_head q (slice_head hits.slice)) head ∙ hits.has;
+          ap (λ (z : Bor (List Cell)). equal_heads h (slice_head z)) slice ∙ ap (λ q. equal_heads q (slice_head hits.slice)) head ∙ hits.has;
     }
 
 -- ---- one target after the other
@@ -78,7 +78,7 @@ first_behind targets h before next here got_here head is =
 pub record IsSeekingBy (slots : Slots) (targets : Slices) (old new : Trail (Bor (List Cell))) (literal : List Cell) (from number : ℕ) : Type 0 where
   pub same : new ≡ old
   pub none : (k : ℕ) (other : Bor (List Cell)) → from ≤ k → k < number → slice_get targets k ≡ Some other → HaveCommon slots old.pairs literal other.now → ⊥
-  pub has : (b : Bor (List Cell)) → slice_get targets number ≡ Some b → same_head (literal_head literal) (slice_head b) ≡ true
+  pub has : (b : Bor (List Cell)) → slice_get targets number ≡ Some b → equal_heads (literal_head literal) (slice_head b) ≡ true
 
 pub seeking_start : (slots : Slots) (targets : Slices) (trail : Trail (Bor (List Cell))) (literal : List Cell) (from number : ℕ)
     → IsFlatLiteral slots literal
@@ -146,7 +146,7 @@ module _ (slots : Slots) (targets : Slices) (old new : Trail (Bor (List Cell))) 
 -- the next number is larger
 pub first_above : (end k : ℕ) (bs : Slices) (h : Head) → k + length bs ≡ end → k ≤ first_in end k bs h
 first_above end k [] h e = omega (arith, e)
-first_above end k (b ∷ bs) h e = by (same_head h (slice_head b)) (first_above end (suc k) bs h (omega (arith, e)))
+first_above end k (b ∷ bs) h e = by (equal_heads h (slice_head b)) (first_above end (suc k) bs h (omega (arith, e)))
   where
     by : (t : Bool) → suc k ≤ first_in end (suc k) bs h → k ≤ cond t k (first_in end (suc k) bs h)
     by true le = omega arith

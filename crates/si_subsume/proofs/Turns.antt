@@ -1,8 +1,27 @@
 -- How long the search may go on.
-use Rattle.std.proofs.Common.{ℕ, zero, suc, ◌-◌, ◌<◌, ◌≤◌, List, [], ◌∷◌, ◌++◌, length, arith}
+use Rattle.std.proofs.Common.{ℕ, zero, suc, ◌+◌, ◌-◌, ◌<◌, ◌≤◌, List, [], ◌∷◌, ◌++◌, length, sym, subst, inl, inr, arith}
 use Rattle.si_subsume.specs.declared.search.Choice.{Choice}
-use Rattle.si_subsume.specs.Search.{multiple, most_turns, turns_left}
+use Rattle.si_subsume.specs.Search.{TakesTurn}
 
+-- k multiple w
+abbrev pub multiple : ℕ → ℕ → ℕ
+multiple zero w = 0
+multiple (suc k) w = w + multiple k w
+
+-- for so many literals that are left, with so many targets
+abbrev pub most_turns : ℕ → ℕ → ℕ
+most_turns targets zero = 1
+most_turns targets (suc left) = 2 + multiple targets (most_turns targets left)
+
+abbrev pub turns_left : ℕ → List Choice → ℕ → ℕ → ℕ
+turns_left targets [] from zero = 0
+turns_left targets [] from (suc left) = 1 + multiple (targets - from) (most_turns targets left)
+turns_left targets (choice ∷ choices) from zero = 0
+turns_left targets (choice ∷ choices) from (suc left) =
+    1 + multiple (targets - suc choice.number)
+    (most_turns targets left) + turns_left targets choices from left
+
+-- ---- it falls
 times_more : (j k w : ℕ) → j ≤ k → multiple j w ≤ multiple k w
 times_more zero k w h = omega arith
 times_more (suc j) zero w h = absurd (omega (arith, h))
@@ -26,7 +45,7 @@ one_chosen n from left choice at_least below =
     )
 
 -- a choice is made
-pub turns_pushed : (n from left : ℕ) (choices : List Choice) (choice : Choice)
+turns_pushed : (n from left : ℕ) (choices : List Choice) (choice : Choice)
     → length choices < left
     → from ≤ choice.number
     → choice.number < n
@@ -36,7 +55,7 @@ turns_pushed n from (suc left) [] choice some at_least below = one_chosen n from
 turns_pushed n from (suc left) (c ∷ choices) choice some at_least below = omega (arith, turns_pushed n from left choices choice (omega (arith, some)) at_least below)
 
 -- a choice is taken back
-pub turns_popped : (n from next left : ℕ) (choices : List Choice) (choice : Choice)
+turns_popped : (n from next left : ℕ) (choices : List Choice) (choice : Choice)
     → length (choices ++ choice ∷ []) < left
     → choice.number < next
     → turns_left n choices next left < turns_left n (choices ++ choice ∷ []) from left
@@ -48,3 +67,13 @@ turns_popped n from next (suc left) [] choice some above =
       times_more (n - next) (n - suc choice.number) (most_turns n left) (omega (arith, above)),
     )
 turns_popped n from next (suc left) (c ∷ choices) choice some above = omega (arith, turns_popped n from next left choices choice (omega (arith, some)) above)
+
+-- so each turn leaves fewer
+pub turns_fall : (n from next left : ℕ) (old new : List Choice) → length old < left → TakesTurn n old from new next → turns_left n new next left < turns_left n old from left
+turns_fall n from next left old new some (inl made) =
+    subst (λ k. turns_left n new k left < turns_left n old from left) (sym made.4)
+    (subst (λ cs. turns_left n cs 0 left < turns_left n old from left) (sym made.1)
+    (turns_pushed n from left old made.0 some made.2 made.3))
+turns_fall n from next left old new some (inr back) =
+    subst (λ cs. turns_left n new next left < turns_left n cs from left) (sym back.1)
+    (turns_popped n from next left new back.0 (subst (λ cs. length cs < left) back.1 some) back.2)

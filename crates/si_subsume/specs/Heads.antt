@@ -16,8 +16,8 @@ abbrev pub head_of : Cell → Head
 head_of (cell.App s arity n) = record { sym = s; arity = arity }
 head_of c = record { sym = 0; arity = 0 }
 
-abbrev pub same_head : Head → Head → Bool
-same_head h g = h.sym == g.sym && h.arity == g.arity
+abbrev pub equal_heads : Head → Head → Bool
+equal_heads h g = h.sym == g.sym && h.arity == g.arity
 
 abbrev pub first_cell : List Cell → Cell
 first_cell cells = get_or cells 0 (cell.App 0 0 0)
@@ -29,7 +29,7 @@ slice_head b = head_of (first_cell b.now)
 -- none
 abbrev pub first_in : ℕ → ℕ → Slices → Head → ℕ
 first_in end k [] h = end
-first_in end k (b ∷ bs) h = cond (same_head h (slice_head b)) k (first_in end (suc k) bs h)
+first_in end k (b ∷ bs) h = cond (equal_heads h (slice_head b)) k (first_in end (suc k) bs h)
 
 -- for each the number of the next one with its head
 abbrev pub nexts : ℕ → ℕ → Slices → List ℕ
@@ -38,7 +38,7 @@ nexts end k (b ∷ bs) = first_in end (suc k) bs (slice_head b) ∷ nexts end (s
 
 abbrev pub IsFirstBy : List (Head × ℕ) → ℕ → ℕ → Slices → Type 0
 IsFirstBy entries end k targets = (h : Head)
-    → unwrap_or (lookup (same_head h) entries) end ≡ first_in end k targets h
+    → unwrap_or (lookup (equal_heads h) entries) end ≡ first_in end k targets h
 
 pub record IsIndexOf (heads : Heads) (targets : Slices) : Type 0 where
   pub first : IsFirstBy heads.first.entries (length targets) 0 targets
@@ -47,9 +47,9 @@ pub record IsIndexOf (heads : Heads) (targets : Slices) : Type 0 where
 -- the first target with the head that is to be tried from this number on
 pub record IsFirstToTry (targets : Slices) (h : Head) (from number : ℕ) : Type 0 where
   pub none : (k : ℕ) (b : Bor (List Cell)) → from ≤ k → k < number → slice_get targets k ≡ Some b
-      → same_head h (slice_head b) ≡ false
+      → equal_heads h (slice_head b) ≡ false
   pub has : (b : Bor (List Cell)) → slice_get targets number ≡ Some b
-      → same_head h (slice_head b) ≡ true
+      → equal_heads h (slice_head b) ≡ true
 
 -- a target is tried where its number is no smaller than this one
 abbrev pub TakesFrom : Slots → Slices → Pairs → Pairs → List Cell → ℕ → ℕ → Bool → Type 0

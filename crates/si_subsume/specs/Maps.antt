@@ -11,10 +11,6 @@ use Rattle.si_flat.specs.declared.Owner.{Owner}
 use Rattle.si_flat.specs.declared.Owner.TheVariants.{Query, Entry}
 use Rattle.si_flat.specs.Cells.{Symbol, entry, Variable, same_variable, IsWhole, Term, Terms, StandsFor}
 
-abbrev pub arguments : Term → Terms
-arguments (terms.var x) = terms.none
-arguments (terms.app s ts) = ts
-
 -- One substitution, which leaves the entry's variables, takes each of these terms to the one that
 -- the map tells.
 pub record IsFlatMapBy (cs ds : List Term) (ns : List ℕ)
@@ -29,7 +25,8 @@ IsFlatMap cs ds ns = (s : Substitution Symbol Variable) × IsFlatMapBy cs ds ns 
 abbrev pub AnswersFlat : List Cell → List Cell → Option (List ℕ) → Type 0
 AnswersFlat c d answer =
     (t u : Term) → StandsFor c t → StandsFor d u
-    → AnswersLeast (IsFlatMap (terms.list (arguments t)) (terms.list (arguments u))) answer
+    → AnswersLeast
+    (IsFlatMap (terms.list (terms.arguments t)) (terms.list (terms.arguments u))) answer
 
 -- the arguments begin with symbols
 abbrev pub IsNoVariable : Term → Type 0
@@ -38,7 +35,7 @@ IsNoVariable (terms.app s ts) = Unit {0}
 
 abbrev pub HasHeads : List Cell → Type 0
 HasHeads cells = (t : Term) → StandsFor cells t
-    → AllByRecursion IsNoVariable (terms.list (arguments t))
+    → AllByRecursion IsNoVariable (terms.list (terms.arguments t))
 
 -- ---- cells
 -- the variables of the cells are the owner's, and a number is left that is larger than all of

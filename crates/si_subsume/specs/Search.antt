@@ -1,5 +1,5 @@
 -- The search for the least map: one literal after the other, with the targets rising.
-use Rattle.std.specs.Prelude.{◌≡◌, ◌⊎◌, ℕ, zero, suc, ◌+◌, ◌-◌, ◌<◌, ◌≤◌, ◌↔◌, List, [], ◌∷◌, length, map, slice_get, slice_index_or as get_or, Option, None, Some, Vec}
+use Rattle.std.specs.Prelude.{◌≡◌, ◌⊎◌, ℕ, suc, ◌<◌, ◌≤◌, ◌↔◌, List, [], ◌∷◌, ◌++◌, length, map, slice_get, slice_index_or as get_or, Option, None, Some, Vec}
 use Rattle.std.specs.List.{AllByRecursion}
 use Rattle.std.specs.Borrow.{Bor}
 use Rattle.std.specs.declared.alloc.Global.{Global}
@@ -100,37 +100,28 @@ module _ (slots : Slots) (targets : Slices) where
       (left : Slices) × AreChosen [] literals choices left pairs
       × ((ns : List ℕ) → CanEnd slots targets pairs left ns → ⊥)
 
--- ---- how long it may go on
--- k multiple w
-abbrev pub multiple : ℕ → ℕ → ℕ
-multiple zero w = 0
-multiple (suc k) w = w + multiple k w
-
--- for so many literals that are left, with so many targets
-abbrev pub most_turns : ℕ → ℕ → ℕ
-most_turns targets zero = 1
-most_turns targets (suc left) = 2 + multiple targets (most_turns targets left)
-
-abbrev pub turns_left : ℕ → List Choice → ℕ → ℕ → ℕ
-turns_left targets [] from zero = 0
-turns_left targets [] from (suc left) = 1 + multiple (targets - from) (most_turns targets left)
-turns_left targets (choice ∷ choices) from zero = 0
-turns_left targets (choice ∷ choices) from (suc left) =
-    1 + multiple (targets - suc choice.number)
-    (most_turns targets left) + turns_left targets choices from left
-
+-- ---- one turn
 -- a choice that came to nothing: where it bound nothing, none of the other targets is of use
 abbrev pub NextNumber : Choice → ℕ → ℕ → ℕ → Type 0
 NextNumber choice mark end next =
     (choice.number < next) × (next ≤ end) × ((next ≡ suc choice.number) ⊎ (mark ≡ choice.mark))
 
+-- one of so many targets was chosen for the next literal, which is none of those below; or the last
+-- choice was taken back, and its literal goes on above it
+abbrev pub TakesTurn : (targets : ℕ) → (old : List Choice) → (from : ℕ) → (new : List Choice)
+    → (next : ℕ) → Type 0
+TakesTurn targets old from new next =
+    ((choice : Choice) × (new ≡ old ++ choice ∷ []) × (from ≤ choice.number)
+    × (choice.number < targets) × (next ≡ 0))
+    ⊎ ((choice : Choice) × (old ≡ new ++ choice ∷ []) × (choice.number < next))
+
 -- what a turn comes to: the search goes on with another target, or there is no map
-abbrev pub GoesOnFrom : Slots → Slices → Slices → ℕ → List Choice → Pairs → Option ℕ → Type 0
-GoesOnFrom slots literals targets before choices pairs None = (ns : List ℕ)
+abbrev pub GoesOnFrom : Slots → Slices → Slices → (old : List Choice) → (from : ℕ)
+    → (new : List Choice) → Pairs → Option ℕ → Type 0
+GoesOnFrom slots literals targets old from new pairs None = (ns : List ℕ)
     → CanEnd slots targets [] literals ns → ⊥
-GoesOnFrom slots literals targets before choices pairs (Some from) =
-    IsUnderway slots targets literals choices pairs from
-    × (turns_left (length targets) choices from (length literals) < before)
+GoesOnFrom slots literals targets old from new pairs (Some next) =
+    IsUnderway slots targets literals new pairs next × TakesTurn (length targets) old from new next
 
 -- ---- one literal
 -- the first target from a number on to which the literal can be taken, and none below

@@ -1,12 +1,12 @@
 -- Tasks: what is searched through, and what each step of the search comes to.
-use Rattle.std.specs.Prelude.{ℕ, Bool, List, length, Option, [], Vec}
+use Rattle.std.specs.Prelude.{ℕ, Bool, List, Option, [], Vec}
 use Rattle.std.specs.declared.alloc.Global.{Global}
 use Rattle.si_flat.specs.declared.Cell.{Cell}
 use Rattle.si_unify.specs.Solving.{Pairs}
 use Rattle.si_subsume.specs.declared.search.Choice.{Choice}
 use Rattle.si_subsume.specs.declared.search.Task.{Task}
 use Rattle.si_subsume.specs.Heads.{IsIndexOf, TakesFrom}
-use Rattle.si_subsume.specs.Search.{AreFlatLiterals, FindsTarget, IsUnderway, IsDead, turns_left, GoesOnFrom, CanEnd, AnswersSearch, AnswersSlices}
+use Rattle.si_subsume.specs.Search.{AreFlatLiterals, FindsTarget, IsUnderway, IsDead, GoesOnFrom, CanEnd, AnswersSearch, AnswersSlices}
 
 -- the literals and the targets are flat, and the index is that of the targets by their heads
 pub record IsSearchable (task : Task) : Type 0 where
@@ -29,11 +29,10 @@ StandsAt task = IsUnderway task.slots task.targets.now task.literals.now
 abbrev pub CannotGoOn : Task → List Choice → Pairs → Type 0
 CannotGoOn task = IsDead task.slots task.targets.now task.literals.now
 
--- The search got further than these choices and this target, and goes on from the next one; or
+-- The search took a turn from these choices and this target, and goes on from the next one; or
 -- there is no map.
 abbrev pub Advances : Task → List Choice → ℕ → List Choice → Pairs → Option ℕ → Type 0
-Advances task choices from = GoesOnFrom task.slots task.literals.now task.targets.now
-    (turns_left (length task.targets.now) choices from (length task.literals.now))
+Advances task = GoesOnFrom task.slots task.literals.now task.targets.now
 
 abbrev pub HasNoMap : Task → Type 0
 HasNoMap task = (ns : List ℕ)

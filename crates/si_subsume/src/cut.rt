@@ -1,7 +1,8 @@
 // The arguments of a flat term.
 ghost use Rattle.std.specs.Prelude.{◌≡◌, ◌<◌, ◌^◌, IfOk, length};
 ghost use Rattle.si_flat.specs.Cells.{IsWhole, StandsFor, Term};
-ghost use Rattle.si_subsume.specs.Maps.{arguments, arity_of, StandForAll};
+ghost use Rattle.si_defs.specs.Terms.{arguments};
+ghost use Rattle.si_subsume.specs.Maps.{arity_of, StandForAll};
 
 use si_flat::{Cell, sub};
 use std::alloc::{AllocError, Global};

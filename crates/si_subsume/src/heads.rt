@@ -3,7 +3,7 @@ ghost use Rattle.std.specs.Prelude.{◌≡◌, ◌<◌, IfOk, length, slice_inde
 ghost use Rattle.std.specs.Map.{lookup};
 ghost use Rattle.std.specs.Option.{unwrap_or};
 ghost use Rattle.std.specs.List.{AllByRecursion};
-ghost use Rattle.si_subsume.specs.Heads.{head_of, same_head, IsIndexOf};
+ghost use Rattle.si_subsume.specs.Heads.{head_of, equal_heads, IsIndexOf};
 
 use indexmap::IndexMap;
 use si_flat::Cell;
@@ -55,7 +55,7 @@ impl Heads {
 
     /// The number of the first target with the head, of so many; their number where there is none.
     pub(crate) fn first(&self, cell: Cell, end: usize) -> usize
-        ensures { result ≡ unwrap_or (lookup (same_head (head_of cell))
+        ensures { result ≡ unwrap_or (lookup (equal_heads (head_of cell))
             self.now.first.entries) end }
     {
         match self.first.get(&head_of(cell)) {

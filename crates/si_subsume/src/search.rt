@@ -115,7 +115,6 @@ fn retreat<'a>(
     choices: &mut Vec<Choice>,
 ) -> Option<usize>
     requires dead { CannotGoOn task.now choices.old.items trail.old.pairs }
-    requires more { length choices.old.items < length task.now.literals.now }
     requires ready { AllowsSolving task.now.slots trail.old.pairs trail.old.slots }
     ensures advances { (from : ℕ) → Advances task.now choices.old.items from choices.new.items
         trail.new.pairs result }

@@ -5,7 +5,8 @@ use Rattle.si_defs.specs.Terms as terms
 use Rattle.si_defs.specs.Clauses.{Term, Terms, Literal, Clause, literals_size, IsSoundClause}
 use Rattle.si_defs.specs.Entries.{literal_entry, term_entry, Place, placed_term, proper_occurrences, literal_entries, entries_from, entries}
 use Rattle.si_defs.specs.declared.TheConstants.{MOST_OCCURRENCES}
-use Rattle.si_term.specs.Walks.{subterms, subterms_of_all, under, paths, paths_from, arguments, entries_alone}
+use Rattle.si_defs.specs.Terms.{arguments}
+use Rattle.si_term.specs.Walks.{subterms, subterms_of_all, under, paths, paths_from, entries_alone}
 
 -- ---- the terms of the occurrences
 term_below : (k : ℕ) (os : List (List ℕ × Term)) → map (λ o. o.1) (map (terms.below k) os) ≡ map (λ o. o.1) os

@@ -7,7 +7,8 @@ use Rattle.si_defs.specs.Terms as terms
 use Rattle.si_defs.specs.Symbols.{Symbol}
 use Rattle.si_defs.specs.Clauses.{Term, Terms, Literal, Clause, IsSoundAtom, IsSoundLiteral, IsSoundClause}
 use Rattle.si_defs.specs.Entries.{Entry, Placed, term_entry, entry_head, entries, literals_symbols, clause_symbols}
-use Rattle.si_term.specs.Walks.{subterms, subterms_of_all, arguments, entries_alone}
+use Rattle.si_defs.specs.Terms.{arguments}
+use Rattle.si_term.specs.Walks.{subterms, subterms_of_all, entries_alone}
 use Rattle.si_term.proofs.Alone.{entries-alone}
 use Rattle.si_term.proofs.Progress.{get-map}
 

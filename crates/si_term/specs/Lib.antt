@@ -1,3 +1,4 @@
+pub mod Depths
 pub mod Texts
 pub mod Terms
 pub mod Meaning

@@ -31,8 +31,3 @@ pattern_of (pattern.Term t) = clauses.term_pattern (term_of t)
 abbrev pub entry_of : Entry → entries.Entry
 entry_of (entry.Lit l) = entries.literal_entry (literal_of l.now)
 entry_of (entry.Sub t) = entries.term_entry (term_of t.now)
-
--- an entry's own term: the atom of a literal, or the term
-abbrev pub whole_of : entries.Entry → clauses.Term
-whole_of (entries.literal_entry l) = l.atom
-whole_of (entries.term_entry t) = t

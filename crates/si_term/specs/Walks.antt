@@ -33,15 +33,11 @@ abbrev mutual
   paths_from k terms.none = []
   paths_from k (terms.more t ts) = map (under k) (paths t) ++ paths_from (1 + k) ts
 
-abbrev pub arguments : Term → Terms
-arguments (terms.var x) = terms.none
-arguments (terms.app s ts) = ts
-
 -- the entries of literals, without their places
 abbrev pub entries_alone : List Literal → List Entry
 entries_alone [] = []
 entries_alone (l ∷ ls) =
-    literal_entry l ∷ map term_entry (subterms_of_all (arguments l.atom)) ++ entries_alone ls
+    literal_entry l ∷ map term_entry (subterms_of_all (terms.arguments l.atom)) ++ entries_alone ls
 
 -- The walk found the one with the number n of these, from 0, or n is greater and the rest of it is
 -- left.

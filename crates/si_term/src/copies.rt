@@ -21,7 +21,7 @@ pub fn to_pattern(alloc: Global, entry: Entry<'_>) -> Result<Pattern, AllocError
 }
 
 /// Equal texts.
-pub(crate) fn copy_texts(alloc: Global, texts: &[&[u8]]) -> Result<Texts, AllocError>
+pub fn copy_texts(alloc: Global, texts: &[&[u8]]) -> Result<Texts, AllocError>
     ensures { IfOk result (λ copies. copies ≡ map (λ t. t.now) texts.now) }
 {
     let mut copies = Texts::with_capacity(alloc, texts.len())?;
@@ -37,6 +37,19 @@ impl Text {
         ensures { IfOk result (λ t. t ≡ self.now) }
     {
         Text::from_bytes(alloc, self.as_bytes())
+    }
+}
+
+impl Texts {
+    /// Equal texts.
+    pub fn copy(&self, alloc: Global) -> Result<Texts, AllocError>
+        ensures { IfOk result (λ texts. texts ≡ self.now) }
+    {
+        let mut copies = Texts::with_capacity(alloc, self.len())?;
+        for text in self.as_slice() {
+            copies.push(text.copy(alloc)?)?;
+        }
+        Ok(copies)
     }
 }
 

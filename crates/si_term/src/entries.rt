@@ -1,13 +1,13 @@
 // The entries of a clause by their numbers, and the variables of an entry.
 ghost use Rattle.std.specs.Prelude.{◌≡◌, ◌<◌, ◌≤◌, ◌+◌, ℕ, Some, IfOk, OnOk, bytes_eq, length, map, slice_get};
 ghost use Rattle.indexmap.specs.IndexSet.{insert_all};
-ghost use Rattle.si_defs.specs.Terms.{row, size, sizes, variables, variables_of_all};
+ghost use Rattle.si_defs.specs.Terms.{row, size, sizes, variables, variables_of_all, arguments};
 ghost use Rattle.si_defs.specs.Clauses.{literals_size};
 ghost use Rattle.si_defs.specs.declared.TheConstants.{MOST_OCCURRENCES};
-ghost use Rattle.si_defs.specs.Entries.{entries, distinct_variables, pattern_entry};
+ghost use Rattle.si_defs.specs.Entries.{entries, distinct_variables, pattern_entry, whole_of};
 ghost use Rattle.si_term.specs.Terms.{term_of};
-ghost use Rattle.si_term.specs.Meaning.{clause_of, place_of, pattern_of, entry_of, whole_of};
-ghost use Rattle.si_term.specs.Walks.{subterms, subterms_of_all, arguments, paths, paths_from, Finds, FindsPath};
+ghost use Rattle.si_term.specs.Meaning.{clause_of, place_of, pattern_of, entry_of};
+ghost use Rattle.si_term.specs.Walks.{subterms, subterms_of_all, paths, paths_from, Finds, FindsPath};
 
 use crate::clause::{Clause, Entry, Pattern, Place};
 use crate::copies::copy_texts;

@@ -15,7 +15,7 @@ pub mod term;
 pub mod text;
 
 pub use clause::{Clause, Entry, Literal, Name, Pattern, Place};
-pub use copies::to_pattern;
+pub use copies::{copy_texts, to_pattern};
 pub use entries::{entry_at, entry_count, place_at, vars_of};
 pub use heads::{head_at, symbols_of};
 pub use list::{Literals, Names, Syms, Texts};

@@ -11,7 +11,7 @@ use std::alloc::{AllocError, Global};
 use std::hash::{Hash, Hasher};
 use std::marker::Model;
 
-/// A text of bytes. A short one takes no memory of its own, and most others take one block.
+/// A text of bytes, in 16. A short one takes no memory of its own, and most others take one block.
 #[derive(Drop)]
 pub struct Text {
     bytes: Bytes,
@@ -21,8 +21,13 @@ pub struct Text {
 #[derive(Drop)]
 enum Bytes {
     Short(Short),
+    /// The one role of TPTP that is longer, which provers give to most clauses that they derive.
+    NegatedConjecture,
     Long(Box<SmallVec<u8, 24>>),
 }
+
+// That role.
+const NEGATED_CONJECTURE: &[u8] = b"negated_conjecture";
 
 /// At most 14 bytes, so that a text takes 16.
 #[derive(Drop)]
@@ -87,15 +92,19 @@ impl Text {
                 bytes: Bytes::Short(Short::from_bytes(bytes)),
             });
         }
-        Text::in_a_block(alloc, bytes)
+        Text::longer(alloc, bytes)
     }
 
-    // A copy of the bytes that takes memory of its own. Few texts are so long, so this isn't
-    // inlined.
+    // A copy of bytes that aren't short. Few texts but that role are so long, so this isn't inlined.
     #[inline(never)]
-    fn in_a_block(alloc: Global, bytes: &[u8]) -> Result<Text, AllocError>
+    fn longer(alloc: Global, bytes: &[u8]) -> Result<Text, AllocError>
         ensures { IfOk result (λ t. t ≡ bytes.now) }
     {
+        if bytes == NEGATED_CONJECTURE {
+            return Ok(Text {
+                bytes: Bytes::NegatedConjecture,
+            });
+        }
         let long = SmallVec::from_slice(alloc, bytes)?;
         Ok(Text {
             bytes: Bytes::Long(Box::new(alloc, long)?),
@@ -108,6 +117,7 @@ impl Text {
     {
         match &self.bytes {
             Bytes::Short(short) => short.as_bytes(),
+            Bytes::NegatedConjecture => NEGATED_CONJECTURE,
             Bytes::Long(long) => long.as_slice(),
         }
     }

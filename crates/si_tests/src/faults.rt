@@ -10,7 +10,7 @@ const SAID: [(AddFault, &str); 4] = [
     (AddFault::Taken, "the name is taken"),
     (
         AddFault::Clash(Clash {
-            entry: 0,
+            occurrence: 0,
             found: Shape {
                 side: Side::Function,
                 arity: 0,

@@ -10,7 +10,7 @@ use Rattle.si_legal.proofs.PathLaws.{one_node}
 use Rattle.si_legal.proofs.SplitLaws.{binding_left}
 use Rattle.si_changes.proofs.Frames.{legal_nodes, one_right}
 use Rattle.si_tree.specs.declared.node.Head.{Head}
-use Rattle.si_tree.specs.declared.node.TreeNode.{TreeNode}
+use Rattle.si_tree.specs.Nodes.{TreeNode}
 use Rattle.si_tree.specs.declared.tree.Tree.TheInside.{Inside}
 use Rattle.si_tree.specs.Decoding.{bindings_of}
 use Rattle.si_tree.specs.Heads.{HasHead}

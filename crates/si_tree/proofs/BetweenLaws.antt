@@ -6,7 +6,7 @@ use Rattle.si_legal.specs.Trees as trees
 use Rattle.si_legal.specs.Counts.{counted}
 use Rattle.si_flat.specs.Rows.{CellPair}
 use Rattle.si_tree.specs.declared.node.Head.{Head}
-use Rattle.si_tree.specs.declared.node.TreeNode.{TreeNode}
+use Rattle.si_tree.specs.Nodes.{TreeNode}
 use Rattle.si_tree.proofs.CountLaws.{weight, nodes_counted}
 use Rattle.si_tree.proofs.LeafSteps.{slab_counts}
 use Rattle.si_tree.specs.KeptNodes.{slot_of, content_of, moved_below, GainsChild, HasChildBy, IsBelowBy, RelinksChild, MayPutBetween, IsPutBetween}

@@ -5,7 +5,7 @@ use Rattle.si_legal.specs.Trees.{inner}
 use Rattle.si_defs.specs.Substitutions.{IsAmong, AreDistinct}
 use Rattle.si_defs.proofs.ListLaws.{get_among}
 use Rattle.si_tree.specs.declared.node.Head.{Head}
-use Rattle.si_tree.specs.declared.node.TreeNode.{TreeNode}
+use Rattle.si_tree.specs.Nodes.{TreeNode}
 use Rattle.si_tree.specs.KeptNodes.{content_of, heads_of, HasChildBy}
 use Rattle.si_tree.proofs.ChildLaws.{same_children}
 

@@ -4,7 +4,7 @@ use Rattle.std.proofs.lemmas.List.Sums.{sum_by-cons}
 use Rattle.std.specs.Prelude.{count_by, is_some}
 use Rattle.si_legal.specs.Trees.{Content, Node}
 use Rattle.si_legal.specs.Counts.{counted}
-use Rattle.si_tree.specs.declared.node.TreeNode.{TreeNode}
+use Rattle.si_tree.specs.Nodes.{TreeNode}
 use Rattle.si_tree.specs.KeptNodes.{slot_of}
 
 suc_same : {m n : ℕ} → suc m ≡ suc n → m ≡ n

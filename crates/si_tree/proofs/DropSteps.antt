@@ -21,7 +21,7 @@ use Rattle.si_changes.proofs.Frames.{legal_nodes, differ_told}
 use Rattle.si_changes.proofs.Permuted.{permuted_distinct}
 use Rattle.si_changes.proofs.LeafLaws.{drops_leaf}
 use Rattle.si_tree.specs.declared.node.Head.{Head}
-use Rattle.si_tree.specs.declared.node.TreeNode.{TreeNode}
+use Rattle.si_tree.specs.Nodes.{TreeNode}
 use Rattle.si_tree.specs.declared.tree.Tree.TheInside.{Inside}
 use Rattle.si_tree.specs.Decoding.{bindings_of}
 use Rattle.si_tree.specs.Dropping.{Drops, MayTakeOut, IsTakenOut}

@@ -26,7 +26,7 @@ use Rattle.si_changes.proofs.OpenLaws.{path_node, passes_start, no_return}
 use Rattle.si_changes.proofs.JoinTreeLaws.{joins_nodes}
 use Rattle.si_tree.specs.declared.node.Head.{Head}
 use Rattle.si_tree.specs.declared.node.Head.TheVariants.{Sym, Var}
-use Rattle.si_tree.specs.declared.node.TreeNode.{TreeNode}
+use Rattle.si_tree.specs.Nodes.{TreeNode}
 use Rattle.si_tree.specs.declared.tree.Tree.TheInside.{Inside}
 use Rattle.si_tree.specs.Decoding.{bindings_of}
 use Rattle.si_tree.specs.Dropping.{Drops, MayJoinBy, MayTakeBoth, AreTakenOut}

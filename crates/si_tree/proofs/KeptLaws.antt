@@ -14,9 +14,7 @@ use Rattle.si_legal.specs.Legal.{IsLegal}
 use Rattle.si_legal.specs.Counts.{leaves_of, unmerged_of, counted, leaf_count}
 use Rattle.si_changes.specs.Nodes.{with_content, OtherNodesStay, ChangesPostings}
 use Rattle.si_tree.specs.declared.node.Head.{Head}
-use Rattle.si_tree.specs.declared.node.TreeNode.{TreeNode}
-use Rattle.si_tree.specs.declared.node.Content.{Content}
-use Rattle.si_tree.specs.declared.node.Content.TheVariants.{Fork, Inner, One, Many}
+use Rattle.si_tree.specs.Nodes.{TreeNode, Content, Fork, Inner, One, Many}
 use Rattle.si_tree.specs.declared.tree.Tree.TheInside.{Inside}
 use Rattle.si_tree.specs.Decoding.{bindings_of}
 use Rattle.si_tree.specs.KeptNodes.{node_of, slot_of, tree_of, content_of, heads_of, AreKnown, KnowsHeads, IsKept, IsLeafNode, IsSameBut, postings_in}

@@ -24,7 +24,7 @@ use Rattle.si_changes.proofs.ComposeLaws.{right_applied}
 use Rattle.si_changes.proofs.LeafLaws.{adds_leaf}
 use Rattle.si_tree.specs.declared.node.Head.{Head}
 use Rattle.si_tree.specs.declared.node.Head.TheVariants.{Sym, Var}
-use Rattle.si_tree.specs.declared.node.TreeNode.{TreeNode}
+use Rattle.si_tree.specs.Nodes.{TreeNode}
 use Rattle.si_tree.specs.declared.tree.Tree.TheInside.{Inside}
 use Rattle.si_tree.specs.Changes.{HasNewLeaf}
 use Rattle.si_tree.specs.Decoding.{bindings_of}

@@ -8,7 +8,8 @@ pub mod ChildLaws
 pub mod KnownHeads
 pub mod ChildPlaces
 pub mod RootLaws
-pub mod NewLaws
+pub mod NodeSteps
+mod NewLaws
 pub mod PostingLists
 pub mod StandingLaws
 pub mod KeptLaws

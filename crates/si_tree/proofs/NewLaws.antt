@@ -7,7 +7,7 @@ use Rattle.si_flat.specs.Rows.{AreWhole}
 use Rattle.si_legal.specs.Trees.{inner}
 use Rattle.si_legal.specs.Trees as trees
 use Rattle.si_legal.specs.Counts.{leaves_of, unmerged_of, counted}
-use Rattle.si_tree.specs.declared.node.TreeNode.{TreeNode}
+use Rattle.si_tree.specs.Nodes.{TreeNode}
 use Rattle.si_tree.specs.declared.tree.Tree.TheInside.{Inside}
 use Rattle.si_tree.specs.KeptNodes.{node_of, slot_of, tree_of, content_of, heads_of, KnowsHeads, IsKept}
 use Rattle.si_tree.specs.Decoding.{bindings_of}

@@ -11,7 +11,7 @@ use Rattle.si_legal.specs.Counts.{leaves_of, unmerged_of, leaf_count, unmerged_c
 use Rattle.si_legal.proofs.PathLaws.{one_node}
 use Rattle.si_changes.specs.Nodes.{ChangesPostings}
 use Rattle.si_changes.proofs.PostingLaws.{gains_posting, loses_posting}
-use Rattle.si_tree.specs.declared.node.TreeNode.{TreeNode}
+use Rattle.si_tree.specs.Nodes.{TreeNode}
 use Rattle.si_tree.specs.declared.tree.Tree.TheInside.{Inside}
 use Rattle.si_tree.specs.Changes.{IsNotStored, AddsPosting, DropsPosting, IsWithout}
 use Rattle.si_tree.specs.KeptNodes.{node_of, slot_of, tree_of, content_of, IsKept, IsLeafNode, IsSameBut, postings_in}

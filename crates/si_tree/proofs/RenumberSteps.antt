@@ -19,11 +19,9 @@ use Rattle.si_changes.proofs.FewOpened.{few_next}
 use Rattle.si_changes.proofs.PlacedLaws.{placed_renumbered}
 use Rattle.si_changes.proofs.RenamedTerms.{map_among}
 use Rattle.si_changes.proofs.RenumberLaws.{renumbered_legal, renumbered_stored, renumbered_leaves, leaves_stay, binds_still}
-use Rattle.si_tree.specs.declared.node.Content.{Content}
-use Rattle.si_tree.specs.declared.node.Content.TheVariants.{Fork, Inner, One, Many}
+use Rattle.si_tree.specs.Nodes.{Content, Fork, Inner, One, Many, TreeNode}
 use Rattle.si_tree.specs.declared.node.Head.{Head}
 use Rattle.si_tree.specs.declared.node.Head.TheVariants.{Sym, Var}
-use Rattle.si_tree.specs.declared.node.TreeNode.{TreeNode}
 use Rattle.si_tree.specs.declared.renumber.Renumbered.{Renumbered}
 use Rattle.si_tree.specs.declared.renumber.Renumbering.{Renumbering}
 use Rattle.si_tree.specs.declared.tree.Tree.TheInside.{Inside}
@@ -223,9 +221,9 @@ module _ (old : Inside) (kept : IsKept old) (r : Renumbering) (h : IsRenumbering
   heads_at key n x split (One s) got e there is known = refl
   heads_at key n x split (Many ps) got e there is known = refl
   heads_at key n x split (Fork f) got e there is known =
-      heads_known key n x (fork_split f.value) split (fork_heads f.value) (fork_children f.value) got there (ap content_of e) is known
+      heads_known key n x (fork_split f) split (fork_heads f) (fork_children f) got there (ap content_of e) is known
   heads_at key n x split (Inner b) got e there is known =
-      heads_known key n x b.value.split split (heads_in b.value.heads) b.value.children.items got there (ap content_of e) is known
+      heads_known key n x b.split split (heads_in b.heads) b.children.items got there (ap content_of e) is known
 
   heads_then : (key : ℕ) (m : TreeNode) → get (exchanged old.nodes r.nodes.items) key ≡ Some m → KnowsHeads (tree_of (renumbered_inside old r)) m.content
   heads_then key m got =

@@ -11,8 +11,7 @@ use Rattle.si_flat.specs.Rows.{AreWhole}
 use Rattle.si_legal.specs.Trees.{inner, Tree}
 use Rattle.si_legal.specs.Legal.{IsLegal}
 use Rattle.si_legal.specs.Counts.{leaf_count, unmerged_count}
-use Rattle.si_tree.specs.declared.node.TreeNode.{TreeNode}
-use Rattle.si_tree.specs.declared.node.Content.{Content}
+use Rattle.si_tree.specs.Nodes.{TreeNode, Content}
 use Rattle.si_tree.specs.declared.tree.Tree.TheInside.{Inside}
 use Rattle.si_tree.specs.Decoding.{bindings_of}
 use Rattle.si_tree.specs.Heads.{AreHeadsOf}

@@ -4,7 +4,7 @@ use Rattle.std.proofs.Math.ListN.{get_or-map}
 use Rattle.std.proofs.lemmas.Option.{same_Some}
 use Rattle.si_flat.specs.Cells.{Term}
 use Rattle.si_legal.specs.Trees.{Node}
-use Rattle.si_tree.specs.declared.node.TreeNode.{TreeNode}
+use Rattle.si_tree.specs.Nodes.{TreeNode}
 use Rattle.si_tree.specs.KeptNodes.{node_of, slot_of}
 
 -- the tree has at each key what its slot is read as

@@ -13,7 +13,7 @@ use Rattle.si_legal.specs.Legal.{IsLegalContent}
 use Rattle.si_changes.specs.Splits.{Parts, MaySplitNode}
 use Rattle.si_changes.proofs.OpenLaws.{no_return}
 use Rattle.si_tree.specs.declared.node.Head.{Head}
-use Rattle.si_tree.specs.declared.node.TreeNode.{TreeNode}
+use Rattle.si_tree.specs.Nodes.{TreeNode}
 use Rattle.si_tree.specs.declared.tree.Tree.TheInside.{Inside}
 use Rattle.si_tree.specs.Decoding.{term_of, bindings_of}
 use Rattle.si_tree.specs.KeptNodes.{tree_of, heads_of, IsKept, IsBelow, MayPutBetween, HasRoomForChild, HaveShortKeys}

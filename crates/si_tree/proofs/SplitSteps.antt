@@ -34,7 +34,7 @@ use Rattle.si_changes.proofs.DivideLaws.{Divides, divides}
 use Rattle.si_changes.proofs.SplitTreeLaws.{leaf_open, splits_node}
 use Rattle.si_tree.specs.declared.node.Head.{Head}
 use Rattle.si_tree.specs.declared.node.Head.TheVariants.{Sym, Var}
-use Rattle.si_tree.specs.declared.node.TreeNode.{TreeNode}
+use Rattle.si_tree.specs.Nodes.{TreeNode}
 use Rattle.si_tree.specs.declared.tree.Tree.TheInside.{Inside}
 use Rattle.si_tree.specs.Changes.{parts_of, AreWholeParts, HasSplitLeaf}
 use Rattle.si_tree.specs.Decoding.{term_of, bindings_of}

@@ -17,7 +17,7 @@ use Rattle.si_changes.proofs.Frames.{legal_nodes, IsChild, differ_told}
 use Rattle.si_changes.proofs.OpenLaws.{open_opened, opened_low, path_opens_once}
 use Rattle.si_changes.proofs.PlacedLaws.{number_one, same_renamed}
 use Rattle.si_changes.proofs.RenamedTerms.{TellsApart, distinct_map}
-use Rattle.si_tree.specs.declared.node.TreeNode.{TreeNode}
+use Rattle.si_tree.specs.Nodes.{TreeNode}
 use Rattle.si_tree.specs.declared.renumber.Visit.{Visit}
 use Rattle.si_tree.specs.declared.tree.Tree.TheInside.{Inside}
 use Rattle.si_tree.specs.Decoding.{bindings_of}

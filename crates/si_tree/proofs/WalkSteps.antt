@@ -17,7 +17,7 @@ use Rattle.si_changes.specs.Places.{number_among}
 use Rattle.si_changes.proofs.FewOpened.{few_below, has_within}
 use Rattle.si_changes.proofs.Frames.{IsChild}
 use Rattle.si_changes.proofs.RenamedTerms.{among_map, map_among}
-use Rattle.si_tree.specs.declared.node.TreeNode.{TreeNode}
+use Rattle.si_tree.specs.Nodes.{TreeNode}
 use Rattle.si_tree.specs.declared.renumber.Renumbered.{Renumbered}
 use Rattle.si_tree.specs.declared.renumber.Renumbering.{Renumbering}
 use Rattle.si_tree.specs.declared.renumber.Visit.{Visit}

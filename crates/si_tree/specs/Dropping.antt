@@ -13,7 +13,7 @@ use Rattle.si_legal.specs.StoredSets.{StaysStored, KeepsLeaves}
 use Rattle.si_changes.specs.Leaves.{MayDropLeaf, DropsLeaf}
 use Rattle.si_changes.specs.Joins.{MayJoin, Joins}
 use Rattle.si_tree.specs.declared.node.Head.{Head}
-use Rattle.si_tree.specs.declared.node.TreeNode.{TreeNode}
+use Rattle.si_tree.specs.Nodes.{TreeNode}
 use Rattle.si_tree.specs.KeptNodes.{slot_of, content_of, heads_of, moved_below, IsBelow, RelinksChild}
 
 -- ---- the tree

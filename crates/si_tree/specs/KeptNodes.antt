@@ -10,10 +10,8 @@ use Rattle.si_legal.specs.Trees.{inner, leaf, Node, Tree}
 use Rattle.si_legal.specs.Trees as trees
 use Rattle.si_legal.specs.Legal.{IsLegal}
 use Rattle.si_tree.specs.declared.node.Branches.{Branches}
-use Rattle.si_tree.specs.declared.node.Content.{Content}
-use Rattle.si_tree.specs.declared.node.Content.TheVariants.{Fork, Inner, One, Many}
+use Rattle.si_tree.specs.Nodes.{Content, Fork, Inner, One, Many, TreeNode}
 use Rattle.si_tree.specs.declared.node.Head.{Head}
-use Rattle.si_tree.specs.declared.node.TreeNode.{TreeNode}
 use Rattle.si_tree.specs.declared.tree.Tree.TheInside.{Inside}
 use Rattle.si_tree.specs.Decoding.{bindings_of}
 use Rattle.si_tree.specs.Forks.{fork_children, fork_heads, fork_split}
@@ -24,15 +22,15 @@ use Rattle.si_tree.specs.Rights.{head_in}
 use Rattle.si_tree.specs.Slots.{standing}
 
 abbrev pub content_of : Content → trees.Content
-content_of (Fork fork) = inner (fork_split fork.value) (fork_children fork.value)
-content_of (Inner branches) = inner branches.value.split branches.value.children.items
+content_of (Fork fork) = inner (fork_split fork) (fork_children fork)
+content_of (Inner branches) = inner branches.split branches.children.items
 content_of (One slot) = leaf (standing (slot ∷ []))
-content_of (Many postings) = leaf postings.value
+content_of (Many postings) = leaf postings
 
 -- the heads beside the children
 abbrev pub heads_of : Content → List Head
-heads_of (Fork fork) = fork_heads fork.value
-heads_of (Inner branches) = heads_in branches.value.heads
+heads_of (Fork fork) = fork_heads fork
+heads_of (Inner branches) = heads_in branches.heads
 heads_of (One slot) = []
 heads_of (Many postings) = []
 
@@ -101,8 +99,8 @@ HaveRoom b = HasRoomForHead b.heads × (length b.children.items < vec_capacity b
 
 -- an inner node with room for a child
 abbrev pub HasRoomIn : Content → Type 0
-HasRoomIn (Fork fork) = length (fork_heads fork.value) < 2
-HasRoomIn (Inner branches) = HaveRoom branches.value
+HasRoomIn (Fork fork) = length (fork_heads fork) < 2
+HasRoomIn (Inner branches) = HaveRoom branches
 HasRoomIn (One slot) = ⊥
 HasRoomIn (Many postings) = ⊥
 
@@ -150,6 +148,13 @@ moved_below n parent bindings =
     record { parent = Some parent; bindings = bindings; content = n.content }
 
 -- ---- new nodes
+-- it binds nothing, and splits on indicator 0
+pub record IsNewRoot (n : TreeNode) : Type 0 where
+  pub parent : n.parent ≡ None
+  pub binds : n.bindings ≡ []
+  pub content : content_of n.content ≡ inner 0 []
+  pub heads : heads_of n.content ≡ []
+
 pub record IsFork (parent : ℕ) (bindings : List CellPair) (split : ℕ) (head : Head) (child : ℕ)
     (n : TreeNode) : Type 0 where
   pub below : n.parent ≡ Some parent

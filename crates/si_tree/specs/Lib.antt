@@ -9,6 +9,7 @@ pub mod Reading
 pub mod Changes
 pub mod Slots
 pub mod Rights
+pub mod Nodes
 pub mod KeptNodes
 pub mod Numbers
 pub mod Renumbers

@@ -12,9 +12,7 @@ use Rattle.si_legal.specs.Trees.{inner, leaf, Node, Tree, HasNode, Path, IsPath,
 use Rattle.si_legal.specs.Trees as trees
 use Rattle.si_legal.specs.StoredSets.{StaysStored, KeepsLeaves}
 use Rattle.si_changes.specs.Places.{renumbered_node}
-use Rattle.si_tree.specs.declared.node.Content.{Content}
-use Rattle.si_tree.specs.declared.node.Content.TheVariants.{Fork, Inner, One, Many}
-use Rattle.si_tree.specs.declared.node.TreeNode.{TreeNode}
+use Rattle.si_tree.specs.Nodes.{Content, Fork, Inner, One, Many, TreeNode}
 use Rattle.si_tree.specs.declared.renumber.Renumbered.{Renumbered}
 use Rattle.si_tree.specs.declared.renumber.Renumbering.{Renumbering}
 use Rattle.si_tree.specs.declared.renumber.Visit.{Visit}
@@ -26,9 +24,9 @@ use Rattle.si_tree.specs.Reading.{counts_of}
 -- ---- one node
 abbrev pub with_split : ℕ → Content → Content
 with_split split (Fork fork) =
-    Fork (record fork { value = (split, fork_heads fork.value, fork_children fork.value) })
+    Fork (split, fork_heads fork, fork_children fork)
 with_split split (Inner branches) =
-    Inner (record branches { value = record branches.value { split = split } })
+    Inner (record branches { split = split })
 with_split split (One slot) = One slot
 with_split split (Many postings) = Many postings
 

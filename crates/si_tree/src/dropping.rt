@@ -49,7 +49,7 @@ fn take_out(nodes: &mut Slab<TreeNode>, leaf: NodeId)
     requires { MayTakeOut nodes.old leaf }
     ensures { IsTakenOut nodes.old nodes.new leaf }
 {
-    let Some(parent) = nodes[leaf.key as usize].parent else {
+    let Some(parent) = nodes[leaf.key as usize].parent() else {
         unreachable!()
     };
     let head = head_below(nodes, leaf, parent);
@@ -64,10 +64,10 @@ fn take_both(nodes: &mut Slab<TreeNode>, leaf: NodeId, bindings: Bindings)
     ensures { (may : MayTakeBoth nodes.old leaf)
         → AreTakenOut nodes.old nodes.new leaf bindings may }
 {
-    let Some(parent) = nodes[leaf.key as usize].parent else {
+    let Some(parent) = nodes[leaf.key as usize].parent() else {
         unreachable!()
     };
-    let Some(upper) = nodes[parent.key as usize].parent else {
+    let Some(upper) = nodes[parent.key as usize].parent() else {
         unreachable!()
     };
     let other = nodes[parent.key as usize].child_besides(leaf);

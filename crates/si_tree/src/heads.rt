@@ -99,7 +99,7 @@ impl Heads {
         ensures none { IfNone result (IsAmong (heads_in self.now) head → ⊥) }
     {
         match self {
-            Heads::Few(heads) => place_in(heads.as_slice(), head),
+            Heads::Few(heads) => place_of_head(heads.as_slice(), head),
             Heads::Many(heads) => heads.place(head),
         }
     }
@@ -124,7 +124,7 @@ impl Heads {
 }
 
 /// The first place of a head.
-pub(crate) fn place_in(heads: &[Head], head: Head) -> Option<usize>
+pub(crate) fn place_of_head(heads: &[Head], head: Head) -> Option<usize>
     ensures some { IfSome result (λ place. slice_get heads.now place ≡ Some head) }
     ensures none { IfNone result (IsAmong heads.now head → ⊥) }
 {

@@ -1,28 +1,29 @@
 // The nodes of a tree.
-ghost use Rattle.std.specs.Prelude.{◌≡◌, ◌≤◌, ◌^◌, IfOk, ◌++◌, ◌∷◌, OnOk, OnErr, [], IfSome, IfNone, length, ℕ, IsPermutation, Some, slice_get};
+ghost use Rattle.std.specs.Prelude.{◌≡◌, ◌<◌, ◌≤◌, ◌^◌, IfOk, ◌++◌, ◌∷◌, OnOk, OnErr, [], IfSome, IfNone, length, ℕ, IsPermutation, Some, set, slice_get};
+ghost use Rattle.std.specs.List.{swap_remove};
 ghost use Rattle.si_defs.specs.Substitutions.{AreDistinct, IsAmong};
-ghost use Rattle.si_flat.specs.Rows.{left_sides};
 ghost use Rattle.si_legal.specs.Trees.{leaf};
 ghost use Rattle.si_legal.specs.Counts.{unmerged_of};
 ghost use Rattle.si_tree.specs.Forks.{fork_children, fork_heads, fork_split};
 ghost use Rattle.si_tree.specs.HashedHeads.{AreVariablesBelow};
 ghost use Rattle.si_tree.specs.KeptHeads.{heads_in};
-ghost use Rattle.si_tree.specs.KeptNodes.{content_of, heads_of, moved_below, GainsChild, HasChildBy, RelinksChild, HasRoomForChild, HaveRoom, IsFork, IsInnerNode, IsLeafWith, IsLeafNode, IsSameBut, IsSameNode, postings_in};
+ghost use Rattle.si_tree.specs.KeptNodes.{content_of, heads_of, moved_below, GainsChild, HasChildBy, RelinksChild, HasRoomForChild, HaveRoom, IsFork, IsInnerNode, IsLeafWith, IsLeafNode, IsNewRoot, IsSameBut, IsSameNode, postings_in};
 ghost use Rattle.si_tree.specs.Changes.{IsWithout};
 ghost use Rattle.si_tree.specs.Dropping.{HasBesides, LosesChild};
 ghost use Rattle.si_tree.specs.Reading.{children_of, postings_of, split_of};
-ghost use Rattle.si_tree.specs.Renumbers.{with_split};
+ghost use Rattle.si_tree.specs.Nodes.{content_in, parent_in};
+ghost use Rattle.si_tree.specs.Renumbers.{with_numbers, with_split};
 ghost use Rattle.si_tree.specs.Slots.{standing};
 
 use crate::fork::Fork;
 use crate::hashed::beyond_variables;
-use crate::heads::{FIRST_ROOM, Heads, place_in};
+use crate::heads::{FIRST_ROOM, Heads, place_of_head};
 use crate::postings::{PostingList, Postings, Slot};
-use crate::rights::joined;
 use si_flat::Bindings;
 use si_legal::Posting;
 use std::alloc::{AllocError, Global};
 use std::marker::Model;
+use std::mem::replace;
 
 /// Names a node of a tree. Contracts see its key.
 #[derive(Clone, Copy, Debug, PartialEq, Eq)]
@@ -81,25 +82,39 @@ pub enum Head {
     Var(u32),
 }
 
-/// A node, and the way to its parent.
+/// A node. Contracts see its parent, its bindings, and what stands below it.
 #[derive(Drop)]
 pub(crate) struct TreeNode {
-    pub(crate) parent: Option<NodeId>,
-    pub(crate) bindings: Bindings,
-    pub(crate) content: Content,
+    bindings: Bindings,
+    place: Place,
 }
 
-/// What a node has below it: an inner node its children, a leaf its postings.
+/// What stands below a node, and its parent, whose name shares the room of the mark: an inner node
+/// has children, a leaf postings.
 #[derive(Drop)]
-pub(crate) enum Content {
-    /// The children of an inner node, but the root, that never had more than two.
-    Fork(Box<Fork>),
-    /// The children of the root, or of an inner node that had three once.
-    Inner(Box<Branches>),
+pub(crate) enum Place {
+    /// The children of the root, which has no parent.
+    Root(Box<Branches>),
+    /// The children of an inner node that never had more than two.
+    Fork(NodeId, Box<Fork>),
+    /// The children of an inner node that had three once.
+    Inner(NodeId, Box<Branches>),
     /// A leaf's first posting, if it still stands.
-    One(Slot),
+    One(NodeId, Slot),
     /// A leaf's postings, once there were two.
-    Many(Box<PostingList>),
+    Many(NodeId, Box<PostingList>),
+}
+
+impl Model for TreeNode {
+    ghost use Rattle.si_tree.specs.Nodes.{TreeNode, content_in, parent_in};
+
+    ghost Value = { TreeNode };
+
+    ghost view = { λ n. record {
+      parent = parent_in n.place;
+      bindings = n.bindings;
+      content = content_in n.place;
+    } };
 }
 
 /// The children of a node. They are told apart by their heads, which stand in the same order.
@@ -110,110 +125,65 @@ pub(crate) struct Branches {
     pub(crate) children: Vec<NodeId>,
 }
 
-impl Content {
-    /// A leaf with one posting.
-    pub(crate) fn leaf(posting: Posting) -> Result<Content, AllocError>
-        ensures { IfOk result (λ content. content_of content ≡ leaf (posting ∷ [])) }
-    {
-        let slot = Slot::of(posting)?;
-        Ok(Content::One(slot))
-    }
-
+impl Place {
     // A leaf with the posting of a slot, if one stands there, and another one.
-    fn with_another(alloc: Global, slot: Slot, posting: Posting) -> Result<Content, AllocError>
-        ensures { IfOk result (λ content. content_of content
+    fn with_another(
+        alloc: Global,
+        parent: NodeId,
+        slot: Slot,
+        posting: Posting,
+    ) -> Result<Place, AllocError>
+        ensures parent { IfOk result (λ place. parent_in place ≡ Some parent) }
+        ensures content { IfOk result (λ place. content_of (content_in place)
             ≡ leaf (standing (slot ∷ []) ++ posting ∷ [])) }
     {
         if !slot.stands() {
-            return Content::leaf(posting);
+            return Ok(Place::One(parent, Slot::of(posting)?));
         }
         let postings = PostingList::two(alloc, slot, posting)?;
-        Ok(Content::Many(Box::new(alloc, postings)?))
+        Ok(Place::Many(parent, Box::new(alloc, postings)?))
     }
 
-    /// The postings of a leaf. An inner node has none.
-    pub(crate) fn postings(&self) -> Postings<'_>
-        ensures { result ≡ postings_of (content_of self.now) }
+    // The same, below another node.
+    fn below(self, parent: NodeId) -> Place
+        ensures parent { parent_in result ≡ Some parent }
+        ensures content { content_in result ≡ content_in self }
     {
         match self {
-            Content::Fork(_) => Postings::none(),
-            Content::Inner(_) => Postings::none(),
-            Content::One(slot) => slot.postings(),
-            Content::Many(postings) => postings.all(),
+            Place::Root(branches) => Place::Inner(parent, branches),
+            Place::Fork(_, fork) => Place::Fork(parent, fork),
+            Place::Inner(_, branches) => Place::Inner(parent, branches),
+            Place::One(_, slot) => Place::One(parent, slot),
+            Place::Many(_, postings) => Place::Many(parent, postings),
         }
     }
 
-    /// The indicator by which the children differ, and none at a leaf.
-    pub(crate) fn split(&self) -> Option<u32>
-        ensures { result ≡ split_of (content_of self.now) }
+    // The place of the child that has this head.
+    fn child_place(&self, head: Head) -> Option<usize>
+        ensures some { IfSome result (λ place. slice_get (heads_of (content_in self.now)) place
+            ≡ Some head) }
+        ensures none { IfNone result (IsAmong (heads_of (content_in self.now)) head → ⊥) }
     {
         match self {
-            Content::Fork(fork) => Some(fork.split()),
-            Content::Inner(branches) => Some(branches.split),
-            Content::One(_) => None,
-            Content::Many(_) => None,
+            Place::Root(branches) => branches.heads.place(head),
+            Place::Fork(_, fork) => place_of_head(fork.heads(), head),
+            Place::Inner(_, branches) => branches.heads.place(head),
+            Place::One(_, _) => None,
+            Place::Many(_, _) => None,
         }
     }
 
-    /// The children. A leaf has none.
-    pub(crate) fn children(&self) -> &[NodeId]
-        ensures { result.now ≡ children_of (content_of self.now) }
+    // Gives an inner node another split.
+    fn renumber(&mut self, split: u32)
+        ensures parent { parent_in self.new ≡ parent_in self.old }
+        ensures content { content_in self.new ≡ with_split split (content_in self.old) }
     {
         match self {
-            Content::Fork(fork) => fork.children(),
-            Content::Inner(branches) => branches.children.as_slice(),
-            Content::One(_) => Default::default(),
-            Content::Many(_) => Default::default(),
-        }
-    }
-
-    /// The heads of the children. A leaf has none.
-    pub(crate) fn heads(&self) -> &[Head]
-        ensures { result.now ≡ heads_of self.now }
-    {
-        match self {
-            Content::Fork(fork) => fork.heads(),
-            Content::Inner(branches) => branches.heads.as_slice(),
-            Content::One(_) => Default::default(),
-            Content::Many(_) => Default::default(),
-        }
-    }
-
-    /// A number above those of all variables among the heads.
-    pub(crate) fn head_vars(&self) -> usize
-        ensures below { AreVariablesBelow result (heads_of self.now) }
-        ensures few { result ≤ 2 ^ 32 }
-    {
-        match self {
-            Content::Fork(fork) => beyond_variables(fork.heads()),
-            Content::Inner(branches) => branches.heads.vars(),
-            Content::One(_) => 0,
-            Content::Many(_) => 0,
-        }
-    }
-
-    /// The place of the child that has this head.
-    pub(crate) fn place(&self, head: Head) -> Option<usize>
-        ensures some { IfSome result (λ place. slice_get (heads_of self.now) place ≡ Some head) }
-        ensures none { IfNone result (IsAmong (heads_of self.now) head → ⊥) }
-    {
-        match self {
-            Content::Fork(fork) => place_in(fork.heads(), head),
-            Content::Inner(branches) => branches.heads.place(head),
-            Content::One(_) => None,
-            Content::Many(_) => None,
-        }
-    }
-
-    /// Gives an inner node another split.
-    pub(crate) fn renumber(&mut self, split: u32)
-        ensures { self.new ≡ with_split split self.old }
-    {
-        match self {
-            Content::Fork(fork) => fork.renumber(split),
-            Content::Inner(branches) => branches.split = split,
-            Content::One(_) => (),
-            Content::Many(_) => (),
+            Place::Root(branches) => branches.split = split,
+            Place::Fork(_, fork) => fork.renumber(split),
+            Place::Inner(_, branches) => branches.split = split,
+            Place::One(_, _) => (),
+            Place::Many(_, _) => (),
         }
     }
 }
@@ -244,6 +214,45 @@ impl Branches {
         self.children.reserve(1)
     }
 
+    // Appends a child, for which there is room.
+    fn push(&mut self, head: Head, child: NodeId)
+        requires room { HaveRoom self.old }
+        requires new { IsAmong (heads_in self.old.heads) head → ⊥ }
+        ensures split { self.new.split ≡ self.old.split }
+        ensures heads { heads_in self.new.heads ≡ heads_in self.old.heads ++ head ∷ [] }
+        ensures children { self.new.children.items ≡ self.old.children.items ++ child ∷ [] }
+    {
+        self.heads.push(head);
+        self.children.push_reserved(child);
+    }
+
+    // Puts another child in the place of one.
+    fn relink(&mut self, place: usize, child: NodeId)
+        requires { place < length self.old.children.items }
+        ensures split { self.new.split ≡ self.old.split }
+        ensures heads { heads_in self.new.heads ≡ heads_in self.old.heads }
+        ensures children { self.new.children.items ≡ set self.old.children.items place child }
+    {
+        self.children[place] = child;
+    }
+
+    // Takes out the child that has this head, and answers its place, which the last one takes.
+    fn remove(&mut self, head: Head) -> usize
+        requires among { IsAmong (heads_in self.old.heads) head }
+        requires inside { (place : ℕ) → slice_get (heads_in self.old.heads) place ≡ Some head
+            → place < length self.old.children.items }
+        ensures place { slice_get (heads_in self.old.heads) result ≡ Some head }
+        ensures split { self.new.split ≡ self.old.split }
+        ensures heads { heads_in self.new.heads
+            ≡ swap_remove (heads_in self.old.heads) result head }
+        ensures children { (child : ℕ) → slice_get self.old.children.items result ≡ Some child
+            → self.new.children.items ≡ swap_remove self.old.children.items result child }
+    {
+        let place = self.heads.remove(head);
+        self.children.swap_remove(place);
+        place
+    }
+
     /// The children of a fork, and room for another.
     fn of(alloc: Global, fork: &Fork) -> Result<Branches, AllocError>
         ensures split { IfOk result (λ b. b.split ≡ fork_split fork.now) }
@@ -264,6 +273,17 @@ impl Branches {
 }
 
 impl TreeNode {
+    /// The root, which binds nothing, with no children.
+    pub(crate) fn root(alloc: Global) -> Result<TreeNode, AllocError>
+        ensures { IfOk result IsNewRoot }
+    {
+        let branches = Branches::new(alloc, 0);
+        Ok(TreeNode {
+            bindings: Bindings::new(alloc),
+            place: Place::Root(Box::new(alloc, branches)?),
+        })
+    }
+
     /// An inner node with one child, and room for another.
     pub(crate) fn fork(
         alloc: Global,
@@ -277,40 +297,132 @@ impl TreeNode {
     {
         let fork = Fork::new(split, head, child);
         Ok(TreeNode {
-            parent: Some(parent),
             bindings,
-            content: Content::Fork(Box::new(alloc, fork)?),
+            place: Place::Fork(parent, Box::new(alloc, fork)?),
         })
     }
 
-    /// A leaf that binds these and those, with one posting, below nothing yet.
+    /// A leaf with one posting.
     pub(crate) fn leaf(
-        alloc: Global,
-        first: Bindings,
-        others: &Bindings,
+        parent: NodeId,
+        bindings: Bindings,
         posting: Posting,
     ) -> Result<TreeNode, AllocError>
-        requires { AreDistinct (left_sides (first ++ others.now)) }
-        ensures { IfOk result (IsLeafWith (first ++ others.now) posting) }
+        ensures leaf { IfOk result (IsLeafWith bindings posting) }
+        ensures parent { IfOk result (λ node. node.parent ≡ Some parent) }
     {
-        let content = Content::leaf(posting)?;
-        let bindings = joined(alloc, first, others)?;
+        let slot = Slot::of(posting)?;
         Ok(TreeNode {
-            parent: None,
             bindings,
-            content,
+            place: Place::One(parent, slot),
         })
+    }
+
+    /// The node's parent, and none at the root.
+    pub(crate) fn parent(&self) -> Option<NodeId>
+        ensures { result ≡ self.now.parent }
+    {
+        match &self.place {
+            Place::Root(_) => None,
+            Place::Fork(parent, _) => Some(*parent),
+            Place::Inner(parent, _) => Some(*parent),
+            Place::One(parent, _) => Some(*parent),
+            Place::Many(parent, _) => Some(*parent),
+        }
+    }
+
+    /// The node's bindings.
+    pub(crate) fn bindings(&self) -> &Bindings
+        ensures { result.now ≡ self.now.bindings }
+    {
+        &self.bindings
+    }
+
+    /// The postings of a leaf. An inner node has none.
+    pub(crate) fn postings(&self) -> Postings<'_>
+        ensures { result ≡ postings_of (content_of self.now.content) }
+    {
+        match &self.place {
+            Place::Root(_) => Postings::none(),
+            Place::Fork(_, _) => Postings::none(),
+            Place::Inner(_, _) => Postings::none(),
+            Place::One(_, slot) => slot.postings(),
+            Place::Many(_, postings) => postings.all(),
+        }
+    }
+
+    /// The indicator by which the children differ, and none at a leaf.
+    pub(crate) fn split(&self) -> Option<u32>
+        ensures { result ≡ split_of (content_of self.now.content) }
+    {
+        match &self.place {
+            Place::Root(branches) => Some(branches.split),
+            Place::Fork(_, fork) => Some(fork.split()),
+            Place::Inner(_, branches) => Some(branches.split),
+            Place::One(_, _) => None,
+            Place::Many(_, _) => None,
+        }
+    }
+
+    /// The children. A leaf has none.
+    pub(crate) fn children(&self) -> &[NodeId]
+        ensures { result.now ≡ children_of (content_of self.now.content) }
+    {
+        match &self.place {
+            Place::Root(branches) => branches.children.as_slice(),
+            Place::Fork(_, fork) => fork.children(),
+            Place::Inner(_, branches) => branches.children.as_slice(),
+            Place::One(_, _) => Default::default(),
+            Place::Many(_, _) => Default::default(),
+        }
+    }
+
+    /// The heads of the children. A leaf has none.
+    pub(crate) fn heads(&self) -> &[Head]
+        ensures { result.now ≡ heads_of self.now.content }
+    {
+        match &self.place {
+            Place::Root(branches) => branches.heads.as_slice(),
+            Place::Fork(_, fork) => fork.heads(),
+            Place::Inner(_, branches) => branches.heads.as_slice(),
+            Place::One(_, _) => Default::default(),
+            Place::Many(_, _) => Default::default(),
+        }
+    }
+
+    /// A number above those of all variables among the heads.
+    pub(crate) fn head_vars(&self) -> usize
+        ensures below { AreVariablesBelow result (heads_of self.now.content) }
+        ensures few { result ≤ 2 ^ 32 }
+    {
+        match &self.place {
+            Place::Root(branches) => branches.heads.vars(),
+            Place::Fork(_, fork) => beyond_variables(fork.heads()),
+            Place::Inner(_, branches) => branches.heads.vars(),
+            Place::One(_, _) => 0,
+            Place::Many(_, _) => 0,
+        }
+    }
+
+    /// The place of the child that has this head.
+    pub(crate) fn child_place(&self, head: Head) -> Option<usize>
+        ensures some { IfSome result (λ place. slice_get (heads_of self.now.content) place
+            ≡ Some head) }
+        ensures none { IfNone result (IsAmong (heads_of self.now.content) head → ⊥) }
+    {
+        self.place.child_place(head)
     }
 
     /// 1 where this is a leaf without a posting, else 0.
     pub(crate) fn unmerged(&self) -> u64
         ensures { result ≡ unmerged_of (content_of self.now.content) }
     {
-        match &self.content {
-            Content::Fork(_) => 0,
-            Content::Inner(_) => 0,
-            Content::One(slot) => u64::from(!slot.stands()),
-            Content::Many(postings) => u64::from(postings.all().is_empty()),
+        match &self.place {
+            Place::Root(_) => 0,
+            Place::Fork(_, _) => 0,
+            Place::Inner(_, _) => 0,
+            Place::One(_, slot) => u64::from(!slot.stands()),
+            Place::Many(_, postings) => u64::from(postings.all().is_empty()),
         }
     }
 
@@ -321,18 +433,20 @@ impl TreeNode {
         ensures same { IsSameNode self.old self.new }
         ensures room { OnOk result (HasRoomForChild self.new) }
     {
-        let branches = match &mut self.content {
-            Content::Fork(fork) => {
+        let place = match &mut self.place {
+            Place::Root(branches) => return branches.reserve(alloc),
+            Place::Fork(parent, fork) => {
                 if fork.heads().len() < 2 {
                     return Ok(());
                 }
-                Branches::of(alloc, fork)?
+                let branches = Branches::of(alloc, fork)?;
+                Place::Inner(*parent, Box::new(alloc, branches)?)
             }
-            Content::Inner(branches) => return branches.reserve(alloc),
-            Content::One(_) => unreachable!(),
-            Content::Many(_) => unreachable!(),
+            Place::Inner(_, branches) => return branches.reserve(alloc),
+            Place::One(_, _) => unreachable!(),
+            Place::Many(_, _) => unreachable!(),
         };
-        self.content = Content::Inner(Box::new(alloc, branches)?);
+        self.place = place;
         Ok(())
     }
 
@@ -342,14 +456,12 @@ impl TreeNode {
         requires new { IsAmong (heads_of self.old.content) head → ⊥ }
         ensures { GainsChild self.old self.new head child }
     {
-        match &mut self.content {
-            Content::Fork(fork) => fork.push(head, child),
-            Content::Inner(branches) => {
-                branches.heads.push(head);
-                branches.children.push_reserved(child);
-            }
-            Content::One(_) => unreachable!(),
-            Content::Many(_) => unreachable!(),
+        match &mut self.place {
+            Place::Root(branches) => branches.push(head, child),
+            Place::Fork(_, fork) => fork.push(head, child),
+            Place::Inner(_, branches) => branches.push(head, child),
+            Place::One(_, _) => unreachable!(),
+            Place::Many(_, _) => unreachable!(),
         }
     }
 
@@ -357,8 +469,28 @@ impl TreeNode {
     pub(crate) fn move_below(&mut self, parent: NodeId, bindings: Bindings)
         ensures { self.new ≡ moved_below self.old parent bindings }
     {
-        self.parent = Some(parent);
+        let place = replace(&mut self.place, Place::One(parent, Slot::vacant()));
+        self.place = place.below(parent);
         self.bindings = bindings;
+    }
+
+    /// The node, below another.
+    pub(crate) fn below(self, parent: NodeId) -> TreeNode
+        ensures { result ≡ moved_below self parent self.bindings }
+    {
+        let TreeNode { bindings, place } = self;
+        TreeNode {
+            bindings,
+            place: place.below(parent),
+        }
+    }
+
+    /// Gives the node other bindings, and another split where it has one.
+    pub(crate) fn renumber(&mut self, bindings: Bindings, split: u32)
+        ensures { self.new ≡ with_numbers bindings split self.old }
+    {
+        self.bindings = bindings;
+        self.place.renumber(split);
     }
 
     /// Puts another child in the place of the one that has this head.
@@ -367,14 +499,15 @@ impl TreeNode {
         ensures { (child : ℕ) → HasChildBy self.old head child
             → RelinksChild self.old self.new child other }
     {
-        let Some(place) = self.content.place(head) else {
+        let Some(at) = self.place.child_place(head) else {
             unreachable!()
         };
-        match &mut self.content {
-            Content::Fork(fork) => fork.relink(place, other),
-            Content::Inner(branches) => branches.children[place] = other,
-            Content::One(_) => unreachable!(),
-            Content::Many(_) => unreachable!(),
+        match &mut self.place {
+            Place::Root(branches) => branches.relink(at, other),
+            Place::Fork(_, fork) => fork.relink(at, other),
+            Place::Inner(_, branches) => branches.relink(at, other),
+            Place::One(_, _) => unreachable!(),
+            Place::Many(_, _) => unreachable!(),
         }
     }
 
@@ -384,19 +517,21 @@ impl TreeNode {
         ensures { (child : ℕ) → HasChildBy self.old head child
             → LosesChild self.old self.new child }
     {
-        match &mut self.content {
-            Content::Fork(fork) => {
-                let Some(place) = place_in(fork.heads(), head) else {
+        match &mut self.place {
+            Place::Root(branches) => {
+                branches.remove(head);
+            }
+            Place::Fork(_, fork) => {
+                let Some(at) = place_of_head(fork.heads(), head) else {
                     unreachable!()
                 };
-                fork.remove(place);
+                fork.remove(at);
             }
-            Content::Inner(branches) => {
-                let place = branches.heads.remove(head);
-                branches.children.swap_remove(place);
+            Place::Inner(_, branches) => {
+                branches.remove(head);
             }
-            Content::One(_) => unreachable!(),
-            Content::Many(_) => unreachable!(),
+            Place::One(_, _) => unreachable!(),
+            Place::Many(_, _) => unreachable!(),
         }
     }
 
@@ -405,7 +540,7 @@ impl TreeNode {
         requires { (other : ℕ) × HasBesides self.now child other }
         ensures { (other : ℕ) → HasBesides self.now child other → result ≡ other }
     {
-        besides(self.content.children(), child)
+        besides(self.children(), child)
     }
 
     /// Appends a posting to those of a leaf.
@@ -415,13 +550,14 @@ impl TreeNode {
         ensures ok { OnOk result (postings_in self.new ≡ postings_in self.old ++ posting ∷ []) }
         ensures err { OnErr result (postings_in self.new ≡ postings_in self.old) }
     {
-        let content = match &mut self.content {
-            Content::Fork(_) => unreachable!(),
-            Content::Inner(_) => unreachable!(),
-            Content::One(slot) => Content::with_another(alloc, *slot, posting)?,
-            Content::Many(postings) => return postings.push(posting),
+        let place = match &mut self.place {
+            Place::Root(_) => unreachable!(),
+            Place::Fork(_, _) => unreachable!(),
+            Place::Inner(_, _) => unreachable!(),
+            Place::One(parent, slot) => Place::with_another(alloc, *parent, *slot, posting)?,
+            Place::Many(_, postings) => return postings.push(posting),
         };
-        self.content = content;
+        self.place = place;
         Ok(())
     }
 
@@ -432,11 +568,12 @@ impl TreeNode {
         ensures stays { IsSameBut self.old self.new }
         ensures dropped { IsWithout (postings_in self.old) posting (postings_in self.new) }
     {
-        match &mut self.content {
-            Content::Fork(_) => unreachable!(),
-            Content::Inner(_) => unreachable!(),
-            Content::One(slot) => slot.empty(),
-            Content::Many(postings) => postings.remove(posting),
+        match &mut self.place {
+            Place::Root(_) => unreachable!(),
+            Place::Fork(_, _) => unreachable!(),
+            Place::Inner(_, _) => unreachable!(),
+            Place::One(_, slot) => slot.empty(),
+            Place::Many(_, postings) => postings.remove(posting),
         }
     }
 }

@@ -31,8 +31,8 @@ pub(crate) struct PostingList {
     slots: Vec<Slot>,
     count: usize,
     // Where the first and the last posting are likely to stand.
-    first: usize,
-    last: usize,
+    first: u32,
+    last: u32,
 }
 
 impl Model for PostingList {
@@ -108,7 +108,7 @@ impl PostingList {
         let place = self.slots.len();
         self.slots.push_reserved(slot);
         self.count += 1;
-        self.last = place;
+        self.last = likely_place(place);
         Ok(())
     }
 
@@ -117,7 +117,12 @@ impl PostingList {
         requires { IsAmong self.old posting }
         ensures { IsWithout self.old posting self.new }
     {
-        let place = place_of(self.slots.as_slice(), self.first, self.last, posting);
+        let place = place_of(
+            self.slots.as_slice(),
+            self.first as usize,
+            self.last as usize,
+            posting,
+        );
         empty(&mut self.slots, place);
         self.count -= 1;
         self.pass(place);
@@ -128,11 +133,11 @@ impl PostingList {
     fn pass(&mut self, place: usize)
         ensures { self.new ≡ self.old }
     {
-        if place == self.first {
-            self.first = place.saturating_add(1);
+        if place == self.first as usize {
+            self.first = self.first.saturating_add(1);
         }
-        if place == self.last {
-            self.last = place.saturating_sub(1);
+        if place == self.last as usize {
+            self.last = self.last.saturating_sub(1);
         }
     }
 
@@ -145,7 +150,7 @@ impl PostingList {
         }
         self.slots.retain(|slot| slot.entry < GONE);
         self.first = 0;
-        self.last = self.count.saturating_sub(1);
+        self.last = likely_place(self.count.saturating_sub(1));
     }
 }
 
@@ -233,6 +238,14 @@ impl Slot {
         })
     }
 
+    /// A slot in which none stands.
+    pub(crate) fn vacant() -> Slot {
+        Slot {
+            clause: 0,
+            entry: GONE,
+        }
+    }
+
     /// Whether a posting stands there still.
     pub(crate) fn stands(&self) -> bool
         ensures { result ≡ stands self.now }
@@ -266,6 +279,14 @@ impl Slot {
             clause: self.clause as usize,
             entry: self.entry,
         }
+    }
+}
+
+// A place in 32 bits. One beyond them isn't likely, and no posting stands at the last of them.
+fn likely_place(place: usize) -> u32 {
+    match u32::try_from(place) {
+        Ok(place) => place,
+        Err(_) => u32::MAX,
     }
 }
 

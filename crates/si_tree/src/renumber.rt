@@ -4,9 +4,9 @@ ghost use Rattle.si_legal.specs.Counts.{node_count};
 ghost use Rattle.si_tree.specs.declared.renumber.TheConstants.{SPARE_NUMBERS};
 ghost use Rattle.si_tree.specs.KeptNodes.{content_of};
 ghost use Rattle.si_tree.specs.Reading.{children_of};
-ghost use Rattle.si_tree.specs.Renumbers.{HasNotedSplit, split_in, with_numbers, visits, AreKeysOf, exchanged, IsRenumbering, Renumbers};
+ghost use Rattle.si_tree.specs.Renumbers.{HasNotedSplit, split_in, visits, AreKeysOf, exchanged, IsRenumbering, Renumbers};
 
-use crate::node::{Content, NodeId, TreeNode};
+use crate::node::{NodeId, TreeNode};
 use crate::numbers::{note_rights, renumbered};
 use crate::tree::Tree;
 use si_flat::Bindings;
@@ -36,16 +36,6 @@ struct Renumbered {
 struct Renumbering {
     nodes: Vec<Renumbered>,
     next: u32,
-}
-
-impl TreeNode {
-    // Gives the node other bindings, and another split where it has one.
-    fn renumber(&mut self, bindings: Bindings, split: u32)
-        ensures { self.new ≡ with_numbers bindings split self.old }
-    {
-        self.bindings = bindings;
-        self.content.renumber(split);
-    }
 }
 
 impl Tree {
@@ -87,13 +77,13 @@ impl Tree {
         let mut next: u32 = 1;
         while let Some(visit) = left.pop() {
             let node = &self.nodes[visit.node.key as usize];
-            let opened = note_rights(&mut numbers, &node.bindings, visit.opened);
+            let opened = note_rights(&mut numbers, node.bindings(), visit.opened);
             nodes.push(Renumbered {
                 node: visit.node,
-                bindings: renumbered(self.alloc, numbers.as_slice(), &node.bindings)?,
-                split: split_in(&node.content, numbers.as_slice()),
+                bindings: renumbered(self.alloc, numbers.as_slice(), node.bindings())?,
+                split: split_in(node, numbers.as_slice()),
             })?;
-            stack(&mut left, node.content.children(), opened)?;
+            stack(&mut left, node.children(), opened)?;
             next = next.max(opened);
         }
         Ok(Renumbering { nodes, next })
@@ -101,11 +91,11 @@ impl Tree {
 }
 
 // The number that is noted for the split, and any at a leaf.
-fn split_in(content: &Content, numbers: &[u32]) -> u32
-    requires { HasNotedSplit (content_of content.now) numbers.now }
-    ensures { result ≡ split_in (content_of content.now) numbers.now }
+fn split_in(node: &TreeNode, numbers: &[u32]) -> u32
+    requires { HasNotedSplit (content_of node.now.content) numbers.now }
+    ensures { result ≡ split_in (content_of node.now.content) numbers.now }
 {
-    match content.split() {
+    match node.split() {
         Some(split) => numbers[split as usize],
         None => 0,
     }

@@ -29,10 +29,10 @@ pub(crate) fn head_below(nodes: &Slab<TreeNode>, node: NodeId, parent: NodeId) -
     requires { IsBelow nodes.now node parent }
     ensures { IsBelowBy nodes.now node parent result }
 {
-    let Some(split) = nodes[parent.key as usize].content.split() else {
+    let Some(split) = nodes[parent.key as usize].split() else {
         unreachable!()
     };
-    let Some(head) = head_at(&nodes[node.key as usize].bindings, split) else {
+    let Some(head) = head_at(nodes[node.key as usize].bindings(), split) else {
         unreachable!()
     };
     head

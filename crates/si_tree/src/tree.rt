@@ -14,9 +14,9 @@ ghost use Rattle.si_tree.specs.Decoding.{bindings_of};
 ghost use Rattle.si_tree.specs.Reading.{IsNode, AtNode, split_of, children_of, postings_of, counts_of};
 ghost use Rattle.si_tree.specs.Heads.{IsChildBy};
 
-use crate::node::{Branches, Content, Counts, Head, NodeId, TreeNode};
+use crate::node::{Counts, Head, NodeId, TreeNode};
 use crate::postings::Postings;
-use crate::rights::{beyond_entries, head_at, head_below, next_after};
+use crate::rights::{beyond_entries, head_at, head_below, joined, next_after};
 use si_flat::{Bindings, Split};
 use si_legal::Posting;
 use slab::Slab;
@@ -58,13 +58,9 @@ impl Tree {
     pub fn new(alloc: Global) -> Result<Tree, AllocError>
         ensures { IfOk result IsRootAlone }
     {
-        let branches = Box::new(alloc, Branches::new(alloc, 0))?;
+        let node = TreeNode::root(alloc)?;
         let mut nodes = Slab::with_capacity(alloc, 1)?;
-        let root = nodes.insert_reserved(TreeNode {
-            parent: None,
-            bindings: Bindings::new(alloc),
-            content: Content::Inner(branches),
-        });
+        let root = nodes.insert_reserved(node);
         Ok(Tree {
             alloc,
             nodes,
@@ -115,7 +111,7 @@ impl Tree {
         requires { IsNode self.now node }
         ensures { AtNode self.now node (λ n. result ≡ n.parent) }
     {
-        self.nodes[node.key as usize].parent
+        self.nodes[node.key as usize].parent()
     }
 
     /// The node's bindings.
@@ -123,7 +119,7 @@ impl Tree {
         requires { IsNode self.now node }
         ensures { AtNode self.now node (λ n. StandForBindings result.now n.bindings) }
     {
-        &self.nodes[node.key as usize].bindings
+        self.nodes[node.key as usize].bindings()
     }
 
     /// The indicator by which the node's children differ, and none at a leaf.
@@ -131,7 +127,7 @@ impl Tree {
         requires { IsNode self.now node }
         ensures { AtNode self.now node (λ n. result ≡ split_of n.content) }
     {
-        self.nodes[node.key as usize].content.split()
+        self.nodes[node.key as usize].split()
     }
 
     /// The nodes below the node. A leaf has none.
@@ -139,7 +135,7 @@ impl Tree {
         requires { IsNode self.now node }
         ensures { AtNode self.now node (λ n. result.now ≡ children_of n.content) }
     {
-        self.nodes[node.key as usize].content.children()
+        self.nodes[node.key as usize].children()
     }
 
     /// The heads of the node's children, in the same order. A leaf has none.
@@ -147,7 +143,7 @@ impl Tree {
         requires { IsNode self.now node }
         ensures { AtNode self.now node (λ n. AreKnown self.now n.content result.now) }
     {
-        self.nodes[node.key as usize].content.heads()
+        self.nodes[node.key as usize].heads()
     }
 
     /// A number above those of all variables that are heads of the node's children. Where these
@@ -158,7 +154,7 @@ impl Tree {
             → number < result }
         ensures few { result ≤ 2 ^ 32 }
     {
-        self.nodes[node.key as usize].content.head_vars()
+        self.nodes[node.key as usize].head_vars()
     }
 
     /// The postings of a leaf. Another node has none.
@@ -166,7 +162,7 @@ impl Tree {
         requires { IsNode self.now node }
         ensures { AtNode self.now node (λ n. result ≡ postings_of n.content) }
     {
-        self.nodes[node.key as usize].content.postings()
+        self.nodes[node.key as usize].postings()
     }
 
     /// The child that has this head.
@@ -175,9 +171,9 @@ impl Tree {
         ensures some { IfSome result (λ child. IsChildBy self.now node head child) }
         ensures none { IfNone result ((child : ℕ) → IsChildBy self.now node head child → ⊥) }
     {
-        let content = &self.nodes[node.key as usize].content;
-        let place = content.place(head)?;
-        Some(content.children()[place])
+        let above = &self.nodes[node.key as usize];
+        let place = above.child_place(head)?;
+        Some(above.children()[place])
     }
 
     /// Appends a posting to those of a leaf. At an error the tree is as before.
@@ -224,13 +220,9 @@ impl Tree {
             unreachable!()
         };
         let vars = self.vars.max(beyond_entries(&bindings));
-        let content = Content::leaf(posting)?;
+        let node = TreeNode::leaf(parent, bindings, posting)?;
         make_room(self.alloc, &mut self.nodes, parent.key as usize)?;
-        let key = self.nodes.insert_reserved(TreeNode {
-            parent: Some(parent),
-            bindings,
-            content,
-        });
+        let key = self.nodes.insert_reserved(node);
         let leaf = NodeId { key: key as u32 };
         let nodes = self.nodes.len() as u64;
         prove!(self.leaves < nodes);
@@ -273,8 +265,9 @@ impl Tree {
             unreachable!()
         };
         let next = next_after(&rest_node, self.next);
-        let leaf = TreeNode::leaf(self.alloc, rest_new, &others, posting)?;
-        let vars = self.vars.max(beyond_entries(&leaf.bindings));
+        let bindings = joined(self.alloc, rest_new, &others)?;
+        let vars = self.vars.max(beyond_entries(&bindings));
+        let leaf = TreeNode::leaf(parent, bindings, posting)?;
         let fork = TreeNode::fork(self.alloc, parent, common, first, head, node)?;
         reserve_nodes(&mut self.nodes, 2)?;
         let (_, added) = put_between(
@@ -341,16 +334,7 @@ fn put_between(
     let fork_id = NodeId {
         key: fork_key as u32,
     };
-    let TreeNode {
-        parent: _,
-        bindings,
-        content,
-    } = leaf;
-    let leaf_key = nodes.insert_reserved(TreeNode {
-        parent: Some(fork_id),
-        bindings,
-        content,
-    });
+    let leaf_key = nodes.insert_reserved(leaf.below(fork_id));
     let leaf_id = NodeId {
         key: leaf_key as u32,
     };

@@ -11,9 +11,9 @@ use Rattle.si_legal.specs.Trees.{Node, Path, IsPath, path_term}
 use Rattle.si_legal.specs.OpenNodes.{IsOpenNode}
 use Rattle.si_legal.proofs.PathLaws.{one_path}
 use Rattle.si_changes.proofs.FewOpened.{few_members}
-use Rattle.si_tree_examples.specs.SomeTerms.{f, a, b, c}
+use Rattle.si_tree_examples.specs.SomeTerms.{f, a, b, c, y}
 use Rattle.si_tree_examples.specs.SomeTrees.{five_nodes}
-use Rattle.si_tree_examples.specs.SomeOpenNodes.{y, FourOpen, NoOtherCount}
+use Rattle.si_tree_examples.specs.SomeOpenNodes.{FourOpen, NoOtherCount}
 use Rattle.si_tree_examples.proofs.FiveNodesProved.{each_node, leaf_a, leaf_b, leaf_c, above_leaf, above_middle, not_none, symbol_in}
 
 abbrev asked : Term

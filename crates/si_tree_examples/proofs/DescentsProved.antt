@@ -6,9 +6,8 @@ use Rattle.si_flat.specs.Cells.{query, same_variable, Term}
 use Rattle.si_legal.specs.declared.Posting.{Posting}
 use Rattle.si_legal.specs.Trees.{leaf, Node, Path, IsPath, PassesBy, path_term}
 use Rattle.si_legal.proofs.PathLaws.{one_path}
-use Rattle.si_tree_examples.specs.SomeTerms.{f, b}
+use Rattle.si_tree_examples.specs.SomeTerms.{f, b, y}
 use Rattle.si_tree_examples.specs.SomeTrees.{posting, five_nodes}
-use Rattle.si_tree_examples.specs.SomeOpenNodes.{y}
 use Rattle.si_tree_examples.specs.SomeDescents.{AnswersInstance, NoLeafElsewhere}
 use Rattle.si_tree_examples.proofs.FiveNodesProved.{each_node, leaf_a, leaf_b, leaf_c, above_leaf, above_middle, no_leaf, postings_in, symbol_in}
 

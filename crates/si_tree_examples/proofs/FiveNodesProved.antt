@@ -8,7 +8,7 @@ use Rattle.si_flat.specs.Cells.{Term}
 use Rattle.si_legal.specs.declared.Posting.{Posting}
 use Rattle.si_legal.specs.Bindings.{indicator}
 use Rattle.si_legal.specs.Generalizations.{same_head}
-use Rattle.si_legal.specs.Trees.{Content, inner, leaf, Node, HasNode, Path, IsPath, path_term, IsLeaf, StandsIn}
+use Rattle.si_legal.specs.Trees.{Content, inner, leaf, Node, Tree, HasNode, Path, IsPath, path_term, IsLeaf, StandsIn}
 use Rattle.si_legal.specs.Legal.{IsLegal, IsLegalNode, AreChildren, ChildBinds}
 use Rattle.si_legal.proofs.PathLaws.{one_path}
 use Rattle.si_tree_examples.specs.SomeTerms.{f, g, a, b, c}
@@ -29,6 +29,41 @@ each_node P (None ∷ nodes) h (suc k) node e = each_node (λ k. P (suc k)) node
 each_node P (Some n ∷ nodes) h zero node e = subst (P 0) (same_Some n node e) h.0
 each_node P (Some n ∷ nodes) h (suc k) node e = each_node (λ k. P (suc k)) nodes h.1 k node e
 
+-- ---- leaves that their terms and their postings tell
+pub no_leaf : (split : ℕ) (children : List ℕ) (postings : List Posting) → inner split children ≡ leaf postings → ⊥
+no_leaf split children postings e = cc
+
+abbrev pub postings_in : Content → List Posting
+postings_in (inner split children) = []
+postings_in (leaf postings) = postings
+
+module _ (tree : Tree Term) (key_of : Term → ℕ) (holder_of : ℕ → ℕ) where
+  -- the key of a leaf, by its term and by the clauses of its postings
+  pub record Known (key : ℕ) (t : Term) (postings : List Posting) : Type 0 where
+    pub by_term : key ≡ key_of t
+    pub by_posting : (p : Posting) → IsAmong postings p → key ≡ holder_of p.clause
+
+  abbrev pub Tells : ℕ → Node Term → Type 0
+  Tells key node =
+      (above : Path) → IsPath tree node.parent above → (postings : List Posting)
+      → node.content ≡ leaf postings → Known key (path_term ((key, node) ∷ above)) postings
+
+  one_posting : (key clause : ℕ) (postings : List Posting) → key ≡ holder_of clause → leaf (posting clause ∷ []) ≡ leaf postings → (p : Posting) → IsAmong postings p → key ≡ holder_of p.clause
+  one_posting key clause postings is e p m = by (subst (λ l. IsAmong l p) (sym (ap postings_in e)) m) where
+    by : IsAmong (posting clause ∷ []) p → key ≡ holder_of p.clause
+    by (inl k) = is ∙ ap (λ q. holder_of q.clause) k
+    by (inr h) = absurd h
+
+  pub tells_leaf : (key clause : ℕ) (node : Node Term) (known : Path) → IsPath tree node.parent known → node.content ≡ leaf (posting clause ∷ []) → key ≡ key_of (path_term ((key, node) ∷ known)) → key ≡ holder_of clause → Tells key node
+  tells_leaf key clause node known leads content by_term by_clause above path postings e = record {
+    by_term = by_term ∙ ap (λ q. key_of (path_term ((key, node) ∷ q))) (one_path tree node.parent known above leads path);
+    by_posting = one_posting key clause postings by_clause (sym content ∙ e);
+  }
+
+  pub leaf_known : EachNode Tells tree.nodes → (key : ℕ) (t : Term) (postings : List Posting) → IsLeaf tree key t postings → Known key t postings
+  leaf_known tells key t postings h = subst (λ u. Known key u postings) (sym h.term) (each_node Tells tree.nodes tells key h.node h.reached.1 h.above h.reached.2 postings h.content)
+
+-- ---- the tree's nodes
 abbrev pub base : Node Term
 base = root (2 ∷ 4 ∷ [])
 
@@ -60,7 +95,7 @@ not_none n e = cc
 pub other : (m n : ℕ) → (m ≡ n → ⊥) → ◌≡◌ {A = Option ℕ} (Some m) (Some n) → ⊥
 other m n differ e = differ (same_Some m n e)
 
-not_among : (m n : ℕ) → (m ≡ n → ⊥) → IsAmong (m ∷ []) n → ⊥
+pub not_among : (m n : ℕ) → (m ≡ n → ⊥) → IsAmong (m ∷ []) n → ⊥
 not_among m n differ (inl e) = differ e
 not_among m n differ (inr h) = h
 
@@ -95,7 +130,7 @@ b_differs u binds = subst (λ t. same_head a t ≡ false) (one_binding five_node
 nothing_left : ◌≡◌ {A = ℕ} 0 1 → ⊥
 nothing_left e = omega (arith, e)
 
-one_zero : ◌≡◌ {A = ℕ} 1 0 → ⊥
+pub one_zero : ◌≡◌ {A = ℕ} 1 0 → ⊥
 one_zero e = omega (arith, e)
 
 legal_base : IsLegalNode five_nodes 0 base
@@ -161,61 +196,32 @@ holder_of zero = 1
 holder_of (suc zero) = 3
 holder_of (suc (suc n)) = 4
 
-record Known (key : ℕ) (node : Node Term) (above : Path) (t : Term) (postings : List Posting) : Type 0 where
-  by_term : key ≡ key_of t
-  by_posting : (p : Posting) → IsAmong postings p → key ≡ holder_of p.clause
-
-abbrev Tells : ℕ → Node Term → Type 0
-Tells key node =
-    (above : Path) → IsPath five_nodes node.parent above → (postings : List Posting)
-    → node.content ≡ leaf postings → Known key node above (path_term ((key, node) ∷ above)) postings
-
-pub no_leaf : (split : ℕ) (children : List ℕ) (postings : List Posting) → inner split children ≡ leaf postings → ⊥
-no_leaf split children postings e = cc
-
-abbrev pub postings_in : Content → List Posting
-postings_in (inner split children) = []
-postings_in (leaf postings) = postings
-
-one_posting : (key clause : ℕ) (postings : List Posting) → key ≡ holder_of clause → leaf (posting clause ∷ []) ≡ leaf postings → (p : Posting) → IsAmong postings p → key ≡ holder_of p.clause
-one_posting key clause postings is e p m = by (subst (λ l. IsAmong l p) (sym (ap postings_in e)) m) where
-  by : IsAmong (posting clause ∷ []) p → key ≡ holder_of p.clause
-  by (inl k) = is ∙ ap (λ q. holder_of q.clause) k
-  by (inr h) = absurd h
-
-tells_leaf : (key clause : ℕ) (node : Node Term) (known : Path) → IsPath five_nodes node.parent known → node.content ≡ leaf (posting clause ∷ []) → key ≡ key_of (path_term ((key, node) ∷ known)) → key ≡ holder_of clause → Tells key node
-tells_leaf key clause node known leads content by_term by_clause above path postings e = record {
-  by_term = by_term ∙ ap (λ q. key_of (path_term ((key, node) ∷ q))) (one_path five_nodes node.parent known above leads path);
-  by_posting = one_posting key clause postings by_clause (sym content ∙ e);
-}
-
-tells : (key : ℕ) (node : Node Term) → HasNode five_nodes key node → Tells key node
-tells =
-    each_node Tells five_nodes.nodes (
-      (λ above path postings e. absurd (no_leaf 0 (2 ∷ 4 ∷ []) postings e)),
+tells : EachNode (Tells five_nodes key_of holder_of) five_nodes.nodes
+tells = (
+  (λ above path postings e. absurd (no_leaf 0 (2 ∷ 4 ∷ []) postings e)),
+  (
+    tells_leaf five_nodes key_of holder_of 1 0 leaf_a above_leaf (refl, refl, (refl, refl, refl)) refl refl refl,
+    (
+      (λ above path postings e. absurd (no_leaf 1 (1 ∷ 3 ∷ []) postings e)),
       (
-        tells_leaf 1 0 leaf_a above_leaf (refl, refl, (refl, refl, refl)) refl refl refl,
-        (
-          (λ above path postings e. absurd (no_leaf 1 (1 ∷ 3 ∷ []) postings e)),
-          (
-            tells_leaf 3 1 leaf_b above_leaf (refl, refl, (refl, refl, refl)) refl refl refl,
-            (tells_leaf 4 2 leaf_c above_middle (refl, refl, refl) refl refl refl, tt),
-          ),
-        ),
+        tells_leaf five_nodes key_of holder_of 3 1 leaf_b above_leaf (refl, refl, (refl, refl, refl)) refl refl refl,
+        (tells_leaf five_nodes key_of holder_of 4 2 leaf_c above_middle (refl, refl, refl) refl refl refl, tt),
       ),
-    )
+    ),
+  ),
+)
 
-leaf_known : (key : ℕ) (t : Term) (postings : List Posting) (h : IsLeaf five_nodes key t postings) → Known key h.node h.above t postings
-leaf_known key t postings h = subst (λ u. Known key h.node h.above u postings) (sym h.term) (tells key h.node h.reached.1 h.above h.reached.2 postings h.content)
+known : (key : ℕ) (t : Term) (postings : List Posting) → IsLeaf five_nodes key t postings → Known five_nodes key_of holder_of key t postings
+known = leaf_known five_nodes key_of holder_of tells
 
 pub holds : (key : ℕ) (t : Term) (p : Posting) → StandsIn five_nodes key t p → key ≡ holder_of p.clause
-holds key t p h = (leaf_known key t h.0 h.1).by_posting p h.2
+holds key t p h = (known key t h.0 h.1).by_posting p h.2
 
 pub five_legal : IsLegal five_nodes
 five_legal = record {
   root = (base, refl, record { parent = refl; bindings = refl; splits = (2 ∷ 4 ∷ [], refl) });
   nodes = each_node (IsLegalNode five_nodes) five_nodes.nodes (legal_base, (legal_a, (legal_middle, (legal_b, (legal_c, tt)))));
-  terms_differ = λ j k t ps qs p q. (leaf_known j t ps p).by_term ∙ sym (leaf_known k t qs q).by_term;
+  terms_differ = λ j k t ps qs p q. (known j t ps p).by_term ∙ sym (known k t qs q).by_term;
   postings_differ = λ j k t u p in_j in_k. holds j t p in_j ∙ sym (holds k u p in_k);
   zero_known = omega arith;
   few_variables = omega arith;

@@ -1,6 +1,9 @@
 pub mod SplitsProved
 pub mod TreesProved
 pub mod FiveNodesProved
+pub mod VariableLeavesProved
+pub mod LinksProved
+pub mod ContentsProved
 pub mod ChangesProved
 pub mod RemovalsProved
 pub mod InsertionsProved

@@ -2,9 +2,8 @@
 use Rattle.std.specs.Prelude.{[], ◌∷◌}
 use Rattle.si_defs.specs.declared.Relation.TheVariants.{Instances}
 use Rattle.si_legal.specs.Descents.{IsAnswer}
-use Rattle.si_tree_examples.specs.SomeTerms.{f}
+use Rattle.si_tree_examples.specs.SomeTerms.{f, y}
 use Rattle.si_tree_examples.specs.SomeTrees.{posting, five_nodes}
-use Rattle.si_tree_examples.specs.SomeOpenNodes.{y}
 
 -- f(b) is an instance of f(Y), and c is none
 abbrev pub AnswersInstance : Type 0

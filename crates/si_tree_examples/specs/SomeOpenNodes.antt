@@ -3,7 +3,6 @@ use Rattle.std.specs.Prelude.{◌≢◌, ◌↔◌, ℕ, List, [], ◌∷◌}
 use Rattle.si_defs.specs.declared.Relation.{Relation}
 use Rattle.si_defs.specs.declared.Relation.TheVariants.{Variants, Instances, Generalizations, Unifiable}
 use Rattle.si_defs.specs.Relations.{Relates}
-use Rattle.si_defs.specs.Terms as terms
 use Rattle.si_flat.specs.Cells.{query, same_variable, Term}
 use Rattle.si_flat.specs.Flattened.{IsNumberedBy}
 use Rattle.si_legal.specs.declared.Posting.{Posting}
@@ -11,12 +10,8 @@ use Rattle.si_legal.specs.Bindings.{indicator}
 use Rattle.si_legal.specs.Legal.{IsLegal}
 use Rattle.si_legal.specs.OpenNodes.{IsOpen, IsOpenNode, CountsOpen}
 use Rattle.si_legal.specs.Trees.{Tree, IsLeaf}
-use Rattle.si_tree_examples.specs.SomeTerms.{f, g, a, x}
+use Rattle.si_tree_examples.specs.SomeTerms.{f, g, a, x, y}
 use Rattle.si_tree_examples.specs.SomeTrees.{five_nodes}
-
--- a query's variable
-abbrev pub y : Term
-y = terms.var (query 0)
 
 -- f(*1) is open for the instances of f(Y)
 abbrev pub OpenForInstances : Type 0

@@ -1,5 +1,7 @@
 -- Legal trees, and trees that break one rule each.
-use Rattle.std.specs.Prelude.{◌≡◌, ℕ, List, [], ◌∷◌, map, None, Some}
+use Rattle.std.specs.Prelude.{◌≡◌, ℕ, zero, suc, ◌+◌, ◌≤◌, List, [], ◌∷◌, map, None, Some}
+use Rattle.si_defs.specs.Terms as terms
+use Rattle.si_defs.specs.declared.TheConstants.{MOST_OCCURRENCES}
 use Rattle.si_flat.specs.Cells.{Term}
 use Rattle.si_legal.specs.declared.Posting.{Posting}
 use Rattle.si_legal.specs.Bindings.{Binding, indicator}
@@ -7,7 +9,7 @@ use Rattle.si_legal.specs.Trees.{inner, leaf, Node, Tree}
 use Rattle.si_legal.specs.Legal.{IsLegal}
 use Rattle.si_legal.specs.Counts.{node_count, leaf_count, unmerged_count}
 use Rattle.si_legal.specs.StoredSets.{AreUnder, IsUnder}
-use Rattle.si_tree_examples.specs.SomeTerms.{f, g, a, b, c, x}
+use Rattle.si_tree_examples.specs.SomeTerms.{f, g, a, b, c, x, y}
 
 -- ---- nodes and trees
 -- the first entry of the clause with this key
@@ -75,6 +77,17 @@ five_unmerged = five_of [] (posting 2 ∷ [])
 abbrev pub five_shared : Tree Term
 five_shared = five_holding (posting 2 ∷ posting 3 ∷ [])
 
+-- f(X,Y) and f(X,X): the split is bound to Y and to X, and different variables are different heads
+abbrev pub variable_leaves : Tree Term
+variable_leaves =
+    tree_of (
+    root (1 ∷ [])
+    ∷ fork 0 ((0, f (x 0 ∷ indicator 1 ∷ [])) ∷ []) 1 (2 ∷ 3 ∷ [])
+    ∷ leaf_of 1 ((1, x 1) ∷ []) 0
+    ∷ leaf_of 1 ((1, x 0) ∷ []) 1
+    ∷ []
+    ) 2 2
+
 abbrev pub NewTree : Type 0
 NewTree = IsLegal new_tree
 
@@ -87,6 +100,12 @@ FiveNodes =
 abbrev pub StoredPostings : Type 0
 StoredPostings =
     AreUnder five_nodes (f (b ∷ [])) (posting 1 ∷ []) × AreUnder five_nodes (g a) []
+
+-- in each leaf's term variables are numbered from 0 by first occurrence
+abbrev pub VariableLeaves : Type 0
+VariableLeaves =
+    IsLegal variable_leaves × AreUnder variable_leaves (f (x 0 ∷ x 1 ∷ [])) (posting 0 ∷ [])
+    × AreUnder variable_leaves (f (x 0 ∷ x 0 ∷ [])) (posting 1 ∷ [])
 
 abbrev pub UnmergedLeaf : Type 0
 UnmergedLeaf =
@@ -109,6 +128,9 @@ abbrev pub NoTurnedPostings : Type 0
 NoTurnedPostings = AreUnder five_shared c (posting 3 ∷ posting 2 ∷ []) → ⊥
 
 -- ---- one rule broken
+-- What follows from other rules isn't broken alone: what the root has to be, that a split is open,
+-- that a child is there, that a leaf has no child, that no variable is a query's, and that leaves
+-- have different terms. All other rules are broken here by a tree that keeps the rest.
 abbrev pub NoBindingRoot : Type 0
 NoBindingRoot =
     IsLegal (
@@ -271,3 +293,176 @@ NoPostingTwice =
 abbrev pub NoForgottenChild : Type 0
 NoForgottenChild =
     IsLegal (tree_of (root [] ∷ leaf_of 0 ((0, a) ∷ []) 0 ∷ []) 1 0) → ⊥
+
+-- ---- roots, parents and children
+abbrev pub NoTreeWithoutRoot : Type 0
+NoTreeWithoutRoot = IsLegal (tree_of [] 1 0) → ⊥
+
+-- the root has no parent
+abbrev pub NoRootWithParent : Type 0
+NoRootWithParent = IsLegal (tree_of (fork 1 [] 0 [] ∷ []) 1 0) → ⊥
+
+-- the root is an inner node
+abbrev pub NoLeafAsRoot : Type 0
+NoLeafAsRoot =
+    IsLegal (tree_of (record { parent = None; bindings = []; content = leaf [] } ∷ []) 1 0) → ⊥
+
+-- every node but the root has a parent
+abbrev pub NoSecondRoot : Type 0
+NoSecondRoot =
+    IsLegal (
+    tree_of (
+    root []
+    ∷ root (2 ∷ 3 ∷ [])
+    ∷ leaf_of 1 ((0, a) ∷ []) 0
+    ∷ leaf_of 1 ((0, b) ∷ []) 1
+    ∷ []
+    ) 1 0
+    )
+    → ⊥
+
+-- a node's parent is there
+abbrev pub NoMissingParent : Type 0
+NoMissingParent = IsLegal (tree_of (root [] ∷ leaf_of 2 ((0, a) ∷ []) 0 ∷ []) 1 0) → ⊥
+
+-- and from each node parents lead to the root, not back to it
+abbrev pub NoCircle : Type 0
+NoCircle =
+    IsLegal (
+    tree_of (
+    root []
+    ∷ fork 2 ((0, f (indicator 0 ∷ [])) ∷ []) 0 (2 ∷ 3 ∷ [])
+    ∷ fork 1 ((0, f (indicator 0 ∷ [])) ∷ []) 0 (1 ∷ 4 ∷ [])
+    ∷ leaf_of 1 ((0, a) ∷ []) 0
+    ∷ leaf_of 2 ((0, b) ∷ []) 1
+    ∷ []
+    ) 1 0
+    )
+    → ⊥
+
+-- each child that a node names is there
+abbrev pub NoMissingChild : Type 0
+NoMissingChild = IsLegal (tree_of (root (1 ∷ []) ∷ []) 1 0) → ⊥
+
+-- and has that node as its parent: the leaf of g(c) isn't below f
+abbrev pub NoForeignChild : Type 0
+NoForeignChild =
+    IsLegal (
+    tree_of (
+    root (1 ∷ 4 ∷ [])
+    ∷ fork 0 ((0, f (indicator 1 ∷ [])) ∷ []) 1 (2 ∷ 3 ∷ 6 ∷ [])
+    ∷ leaf_of 1 ((1, a) ∷ []) 0
+    ∷ leaf_of 1 ((1, b) ∷ []) 1
+    ∷ fork 0 ((0, g (indicator 1)) ∷ []) 1 (5 ∷ 6 ∷ [])
+    ∷ leaf_of 4 ((1, a) ∷ []) 2
+    ∷ leaf_of 4 ((1, c) ∷ []) 3
+    ∷ []
+    ) 2 0
+    )
+    → ⊥
+
+-- a child is named once
+abbrev pub NoChildTwice : Type 0
+NoChildTwice =
+    IsLegal (tree_of (root (1 ∷ 1 ∷ []) ∷ leaf_of 0 ((0, a) ∷ []) 0 ∷ []) 1 0) → ⊥
+
+-- a leaf has no child
+abbrev pub NoChildBelowLeaf : Type 0
+NoChildBelowLeaf =
+    IsLegal (
+    tree_of (root (1 ∷ []) ∷ leaf_of 0 ((0, a) ∷ []) 0 ∷ leaf_of 1 [] 1 ∷ []) 1 0
+    )
+    → ⊥
+
+-- ---- bindings and leaves
+-- a node binds an indicator once
+abbrev pub NoBoundTwice : Type 0
+NoBoundTwice =
+    IsLegal (tree_of (root (1 ∷ []) ∷ leaf_of 0 ((0, a) ∷ (0, b) ∷ []) 0 ∷ []) 1 0) → ⊥
+
+-- each path opens indicator 0 at its start, so no binding opens it again
+abbrev pub NoZeroAgain : Type 0
+NoZeroAgain =
+    IsLegal (
+    tree_of (
+    root (1 ∷ [])
+    ∷ fork 0 ((0, f (indicator 0 ∷ [])) ∷ []) 0 (2 ∷ 3 ∷ [])
+    ∷ leaf_of 1 ((0, a) ∷ []) 0
+    ∷ leaf_of 1 ((0, b) ∷ []) 1
+    ∷ []
+    ) 1 0
+    )
+    → ⊥
+
+-- a tree has no variable of a query
+abbrev pub NoQueryVariable : Type 0
+NoQueryVariable = IsLegal (two_nodes (f (y ∷ [])) (posting 0 ∷ [])) → ⊥
+
+-- each child binds the split itself: it isn't left to the nodes below a child
+abbrev pub NoSplitBoundLater : Type 0
+NoSplitBoundLater =
+    IsLegal (
+    tree_of (
+    root (1 ∷ [])
+    ∷ fork 0 ((0, f (indicator 1 ∷ indicator 2 ∷ [])) ∷ []) 1 (2 ∷ 3 ∷ [])
+    ∷ fork 1 ((2, a) ∷ []) 1 (4 ∷ 5 ∷ [])
+    ∷ leaf_of 1 ((1, c) ∷ (2, c) ∷ []) 0
+    ∷ leaf_of 2 ((1, a) ∷ []) 1
+    ∷ leaf_of 2 ((1, b) ∷ []) 2
+    ∷ []
+    ) 3 0
+    )
+    → ⊥
+
+-- the same variable is the same head: f(X,X) and f(X,Y) don't part at their first arguments
+abbrev pub NoEqualVariables : Type 0
+NoEqualVariables =
+    IsLegal (
+    tree_of (
+    root (1 ∷ [])
+    ∷ fork 0 ((0, f (indicator 1 ∷ indicator 2 ∷ [])) ∷ []) 1 (2 ∷ 3 ∷ [])
+    ∷ leaf_of 1 ((1, x 0) ∷ (2, x 0) ∷ []) 0
+    ∷ leaf_of 1 ((1, x 0) ∷ (2, x 1) ∷ []) 1
+    ∷ []
+    ) 3 2
+    )
+    → ⊥
+
+-- the variable that occurs first has the lower number
+abbrev pub NoTurnedVariables : Type 0
+NoTurnedVariables =
+    IsLegal (
+    tree_of (root (1 ∷ []) ∷ leaf_of 0 ((0, f (x 1 ∷ x 0 ∷ [])) ∷ []) 0 ∷ []) 1 2
+    )
+    → ⊥
+
+-- a symbol of arity 1 has an argument
+abbrev pub NoUnsoundTerm : Type 0
+NoUnsoundTerm =
+    IsLegal (
+    two_nodes (terms.app (record { number = 2; arity = 1 }) terms.none) (posting 0 ∷ [])
+    )
+    → ⊥
+
+-- so many times f, and a inside
+abbrev pub nested : ℕ → Term
+nested zero = a
+nested (suc n) = f (nested n ∷ [])
+
+-- with a, these are more symbols than a term may have
+abbrev pub NoLargeTerm : Type 0
+NoLargeTerm =
+    (n : ℕ) → MOST_OCCURRENCES ≤ n → IsLegal (two_nodes (nested n) (posting 0 ∷ [])) → ⊥
+
+-- a leaf has a posting once
+abbrev pub NoPostingTwiceInLeaf : Type 0
+NoPostingTwiceInLeaf = IsLegal (two_nodes a (posting 0 ∷ posting 0 ∷ [])) → ⊥
+
+-- ---- bounds
+-- indicator 0 is below `next`
+abbrev pub NoNextZero : Type 0
+NoNextZero = IsLegal (tree_of (root [] ∷ []) 0 0) → ⊥
+
+-- no tree needs more variables than a term may have
+abbrev pub NoManyVariables : Type 0
+NoManyVariables = IsLegal (tree_of (root [] ∷ []) 1 (1 + MOST_OCCURRENCES)) → ⊥

@@ -21,4 +21,4 @@ pub use numbers::renumbered_trees;
 pub use open_nodes::{counted_nodes, nodes_of_each_tree, open_paths};
 pub use removals::{joined_nodes, removed_postings};
 pub use splits::{split_bindings, wrong_splits};
-pub use trees::{illegal_trees, legal_trees};
+pub use trees::{illegal_contents, illegal_links, illegal_trees, legal_trees};

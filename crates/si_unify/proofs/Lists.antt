@@ -1,8 +1,9 @@
 -- Slots that have a value in a list of pairs, and slots that have none.
-use Rattle.std.proofs.Common.{◌≡◌, ◌≢◌, ℕ, inl, inr, List, [], ◌∷◌, ◌++◌, None, Some}
+use Rattle.std.proofs.Common.{◌≡◌, ◌≢◌, ℕ, inl, inr, List, [], ◌∷◌, ◌++◌, refl, None, Some}
 use Rattle.std.proofs.lemmas.Bool.Decides.{eqb_tells}
 use Rattle.std.specs.List.{AllByRecursion}
-use Rattle.si_trail.specs.Trails.{value_at}
+use Rattle.si_defs.proofs.ListLaws.{all_got}
+use Rattle.si_trail.specs.Trails.{value_at, IsSlotOf}
 
 module _ {X : Type 0} where
   -- a slot without a value is no slot of a pair
@@ -13,6 +14,10 @@ module _ {X : Type 0} where
         | inl h ↦ let bad : Some pair.1 ≡ None = rw h.0 at unbound in cc
         | inr h ↦ (h.1, apart_from pairs slot (rw h.0 at unbound))
       ]
+
+  -- the slot of a pair has a value
+  pub slot_bound : (pairs : List (ℕ × X)) (n slot : ℕ) → IsSlotOf pairs n slot → value_at pairs slot ≡ None → ⊥
+  slot_bound pairs n slot s unbound = all_got (λ pair. pair.0 ≢ slot) pairs n (slot, s.0) (apart_from pairs slot unbound) s.1 refl
 
   -- what a slot is bound to, it stays bound to
   pub still_bound : (pairs more : List (ℕ × X)) (slot : ℕ) (v : X) → value_at pairs slot ≡ Some v → value_at (pairs ++ more) slot ≡ Some v

@@ -7,7 +7,6 @@ use Rattle.std.proofs.lemmas.Bool.{eq-eqb}
 use Rattle.std.proofs.lemmas.Option.{slice_get_within, get_or_from_slice_get}
 use Rattle.std.proofs.lemmas.List.Sums.{sum_by-set}
 use Rattle.std.specs.Prelude.{◌==◌, ◌^◌, sum_by, slice_get}
-use Rattle.std.specs.Option.{is_some}
 use Rattle.std.specs.List.{AllByRecursion}
 use Rattle.std.specs.Borrow.{Bor}
 use Rattle.si_defs.specs.Substitutions.{IsAmong}
@@ -21,7 +20,7 @@ use Rattle.si_unify.specs.declared.states.State.TheVariants.{New, Open, Done}
 use Rattle.si_unify.specs.declared.circles.Visit.{Visit}
 use Rattle.si_unify.specs.declared.circles.Visit.TheVariants.{Enter, Leave}
 use Rattle.si_unify.specs.Solving.{Pairs, slot_count, IsTriangularBy, RanksBelow, IsBinding}
-use Rattle.si_unify.specs.Spots.{cell_slot}
+use Rattle.si_unify.specs.Spots.{cell_slot, IsUnbound, CellIsUnbound}
 use Rattle.si_unify.specs.Circles.{if_value, if_bound, with_slot, bound_slots, HasStepped, HasDone, enter_each, pile, visits_of, AreEntered, below_value, slots_below, visit_slot, visit_slots, IsDone, AreCovered, RanksUnder, ComeDown, AreRanked, leave_slots, IsSearching, StayDone, HasSearched}
 use Rattle.si_unify.specs.States.{weight}
 use Rattle.si_unify.proofs.Places.{value_holds}
@@ -249,23 +248,14 @@ one_entered slots pairs cells i next d old before new less h e is =
     ∙ ap (λ l. enter_each l ++ old) (sym (ap (λ l. pile (bound_slots slots pairs l) []) (take_more cells i d less) ∙ one_entry_more slots pairs (take i cells) (get_or cells i d) (Some next) e))
 
 -- ---- cells of which none is a bound variable's
-pub one_unbound :
-    (slots : Slots) (pairs : Pairs) (cells : List Cell) (i : ℕ) (d : Cell) (o : Option ℕ)
-    → i < length cells
-    → bound_slots slots pairs (take i cells) ≡ []
-    → o ≡ if_bound pairs (cell_slot slots (get_or cells i d))
-    → is_some o ≡ false
-    → bound_slots slots pairs (take (i + 1) cells) ≡ []
-one_unbound slots pairs cells i d o less h is none =
-    ap (bound_slots slots pairs) (take_more cells i d less)
-    ∙ bound_slots-append slots pairs (take i cells) (get_or cells i d)
-    ∙ ap (λ l. l ++ with_slot (if_bound pairs (cell_slot slots (get_or cells i d))) []) h
-    ∙ ap (λ p. with_slot p []) (sym is)
-    ∙ nothing o none
-  where
-    nothing : (p : Option ℕ) → is_some p ≡ false → with_slot p [] ≡ []
-    nothing None e = refl
-    nothing (Some z) e = cc
+not_bound : (pairs : Pairs) (o : Option ℕ) → IsUnbound pairs o → if_bound pairs o ≡ None
+not_bound pairs None h = refl
+not_bound pairs (Some slot) h = ap (λ v. if_value v slot) h
+
+pub none_bound : (slots : Slots) (pairs : Pairs) (cells : List Cell) → AllByRecursion (CellIsUnbound slots pairs) cells → bound_slots slots pairs cells ≡ []
+none_bound slots pairs [] h = refl
+none_bound slots pairs (c ∷ cells) h =
+    ap (λ o. with_slot o (bound_slots slots pairs cells)) (not_bound pairs (cell_slot slots c) h.0) ∙ none_bound slots pairs cells h.1
 
 -- ---- opening a slot
 all_pile : (P : ℕ → Type 0) (xs before : List ℕ) → AllByRecursion P xs → AllByRecursion P before → AllByRecursion P (pile xs before)

@@ -1,6 +1,6 @@
 -- A triangular list of bindings has a solution: the map that takes each bound variable to its
 -- value, with the variables in it replaced again and again.
-use Rattle.std.proofs.Common.{◌≡◌, ◌≢◌, ℕ, ◌+◌, ◌<◌, ◌≤◌, ◌⊎◌, inl, inr, Bool, true, false, cond, List, [], ◌∷◌, refl, sym, ◌∙◌, ap, subst, arith, suc, zero, append-nil, None, Some}
+use Rattle.std.proofs.Common.{◌≡◌, ◌≢◌, ℕ, ◌+◌, ◌-◌, ◌<◌, ◌≤◌, ◌⊎◌, ◌↔◌, inl, inr, Bool, true, false, cond, List, [], ◌∷◌, refl, sym, ◌∙◌, ap, subst, arith, suc, zero, append-nil, None, Some}
 use Rattle.std.proofs.lemmas.Bool.Decides.{eqb_tells, nat_tests}
 use Rattle.std.proofs.lemmas.Bool.{eq-eqb, cases_Bool}
 use Rattle.std.specs.Prelude.{◌==◌, nat_lt}
@@ -52,9 +52,9 @@ mutual
       ap (λ u. terms.more u (terms.substitute_all g ts)) (same_image P g h t give all.0) ∙ ap (terms.more (terms.substitute h t)) (same_images P g h ts give all.1)
 
 -- ---- variables and slots
-record IsOfSlot (slots : Slots) (k : ℕ) (x : Variable) : Type 0 where
-  range : IsInRange slots x
-  slot : slot_of slots x ≡ k
+pub record IsOfSlot (slots : Slots) (k : ℕ) (x : Variable) : Type 0 where
+  pub range : IsInRange slots x
+  pub slot : slot_of slots x ≡ k
 
 pub lt_tells : (m n : ℕ) → ((nat_lt m n ≡ true) × (m < n)) ⊎ ((nat_lt m n ≡ false) × (n ≤ m))
 lt_tells m n = go (nat_lt m n) refl
@@ -63,7 +63,7 @@ lt_tells m n = go (nat_lt m n) refl
     go true e = inl (e, grind (arith, nat_tests))
     go false e = inr (e, grind (arith, nat_tests))
 
-of_slot : (slots : Slots) (k : ℕ) → k < slot_count slots → IsOfSlot slots k (variable_of slots k)
+pub of_slot : (slots : Slots) (k : ℕ) → k < slot_count slots → IsOfSlot slots k (variable_of slots k)
 of_slot slots k less =
     elim (lt_tells k slots.query) [
       | inl h ↦ rw h.0 (record { range = h.1; slot = refl })
@@ -73,6 +73,45 @@ of_slot slots k less =
             | inr j ↦ rw (h.0, j.0) (record { range = omega (arith, h.1, j.1, less); slot = omega (arith, h.1, j.1) })
           ]
     ]
+
+-- ---- slots of an entry
+pub entry_here : (slots : Slots) (k : ℕ) → slots.query ≤ k → k < slots.query + slots.entry → variable_of slots k ≡ entry (k - slots.query)
+entry_here slots k above below = elim (lt_tells k slots.query) [
+  | inl h ↦ absurd (omega (arith, above, h.1))
+  | inr h ↦ elim (lt_tells k (slots.query + slots.entry)) [
+    | inl j ↦ rw (h.0, j.0) refl
+    | inr j ↦ absurd (omega (arith, below, j.1))
+  ]
+]
+
+pub record IsEntrySlot (slots : Slots) (k m : ℕ) : Type 0 where
+  pub above : slots.query ≤ k
+  pub below : k < slots.query + slots.entry
+  pub slot : slots.query + m ≡ k
+
+query_no : (m n : ℕ) → query m ≡ entry n → ⊥
+query_no m n e = cc
+
+ind_no : (m n : ℕ) → ind m ≡ entry n → ⊥
+ind_no m n e = cc
+
+pub same_number : (m n : ℕ) → entry m ≡ entry n → m ≡ n
+same_number m n e = cc
+
+pub entry_slot : (slots : Slots) (k m : ℕ) → variable_of slots k ≡ entry m → IsEntrySlot slots k m
+entry_slot slots k m e = elim (lt_tells k slots.query) [
+  | inl h ↦ let bad : query k ≡ entry m = rw h.0 at e in absurd (query_no k m bad)
+  | inr h ↦ elim (lt_tells k (slots.query + slots.entry)) [
+    | inl j ↦ let one : entry (k - slots.query) ≡ entry m = rw (h.0, j.0) at e in record { above = h.1; below = j.1; slot = omega (arith, h.1, same_number (k - slots.query) m one) }
+    | inr j ↦ let bad : ind (k - slots.query - slots.entry) ≡ entry m = rw (h.0, j.0) at e in absurd (ind_no (k - slots.query - slots.entry) m bad)
+  ]
+]
+
+pub entry_tells : (slots : Slots) (k : ℕ) → slots.query ≤ k → nat_lt k (slots.query + slots.entry) ≡ true ↔ ((n : ℕ) × (variable_of slots k ≡ entry n))
+entry_tells slots k above = elim (lt_tells k (slots.query + slots.entry)) [
+  | inl h ↦ ((λ t. (k - slots.query, entry_here slots k above h.1)), λ e. h.0)
+  | inr h ↦ ((λ t. let bad : false ≡ true = sym h.0 ∙ t in cc), λ e. absurd (omega (arith, h.1, (entry_slot slots k e.0 e.1).below)))
+]
 
 -- ---- rows of slots and terms
 abbrev pub IsApartFrom : ℕ → ℕ × Term → Type 0

@@ -124,6 +124,10 @@ abbrev pub IsUnbound : Pairs → Option ℕ → Type 0
 IsUnbound pairs None = Unit {0}
 IsUnbound pairs (Some slot) = value_at pairs slot ≡ None
 
+-- no bound variable's cell
+abbrev pub CellIsUnbound : Slots → Pairs → Cell → Type 0
+CellIsUnbound slots pairs c = IsUnbound pairs (cell_slot slots c)
+
 abbrev pub cell_at : Question → Pairs → Spot → Cell
 cell_at q pairs spot = get_or (text q pairs spot.base) spot.at (cell.App 0 0 0)
 

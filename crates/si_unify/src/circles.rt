@@ -2,7 +2,7 @@
 ghost use Rattle.std.specs.Prelude.{◌≡◌, ℕ, ◌+◌, ◌*◌, ◌<◌, ◌≤◌, true, length, take, reverse, ◌++◌, ◌∷◌, [], IfOk, OnOk, OnErr, vec_capacity};
 ghost use Rattle.std.specs.List.{AllByRecursion};
 ghost use Rattle.si_trail.specs.Trails.{HasDistinctSlots};
-ghost use Rattle.si_unify.specs.Circles.{if_bound, bound_slots, slots_below, visits_of, AreEntered, AreEntries, AreResolved, IsSearching, HasSearched, HasDone, VisitsLackRoom, AreNoMore, IsTold};
+ghost use Rattle.si_unify.specs.Circles.{if_bound, slots_below, visits_of, AreEntered, AreEntries, AreResolved, IsSearching, HasSearched, HasDone, VisitsLackRoom, AreNoMore, IsTold};
 ghost use Rattle.si_unify.specs.Rooms.{AreNoLongerThan};
 ghost use Rattle.si_unify.specs.Solving.{slot_count, IsAcyclic, IsBinding};
 ghost use Rattle.si_unify.specs.States.{AreNew};
@@ -10,6 +10,7 @@ ghost use Rattle.si_unify.specs.Spots.{cell_slot};
 
 use crate::slots::Slots;
 use crate::states::{State, States};
+use crate::unbound::are_unbound;
 use si_flat::Cell;
 use si_trail::Trail;
 use std::alloc::AllocError;
@@ -154,18 +155,6 @@ fn enter_bound<'a>(
         visits.push(Visit::Enter(trail.slot(n)))?;
     }
     Ok(())
-}
-
-// Whether none of these cells is a bound variable's.
-fn are_unbound<'a>(trail: &Trail<&'a [Cell]>, slots: &Slots, value: &[Cell]) -> bool
-    ensures { result ≡ true → bound_slots slots.now trail.now.pairs value.now ≡ [] }
-{
-    for &cell in value {
-        if bound_slot(trail, slots, cell).is_some() {
-            return false;
-        }
-    }
-    true
 }
 
 // Whether no variable in the value of a slot is bound.

@@ -14,8 +14,10 @@ mod slots;
 mod solver;
 mod spots;
 mod states;
+mod unbound;
 mod unifier;
 
 pub use scratch::Scratch;
 pub use slots::Slots;
 pub use solver::{solve, solve_with};
+pub use unbound::are_unbound;

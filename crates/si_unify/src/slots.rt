@@ -1,7 +1,7 @@
 // Variables and their slots.
-ghost use Rattle.std.specs.Prelude.{◌≡◌, ◌<◌, ◌^◌, ◌↔◌, IsTrue};
-ghost use Rattle.si_flat.specs.Cells.{variable_cell};
-ghost use Rattle.si_unify.specs.Solving.{slot_count, variable_of, CellIsInRange, AreInRange};
+ghost use Rattle.std.specs.Prelude.{◌≡◌, ◌<◌, ◌^◌, ◌↔◌, ℕ, IsTrue};
+ghost use Rattle.si_flat.specs.Cells.{query, entry, ind, variable_cell};
+ghost use Rattle.si_unify.specs.Solving.{slot_count, slot_of, variable_of, CellIsInRange, AreInRange};
 ghost use Rattle.si_unify.specs.Spots.{cell_slot, free_slot};
 
 use si_flat::Cell;
@@ -50,17 +50,47 @@ impl Slots {
         }
     }
 
+    /// The slot of the query's variable with this number.
+    #[inline(always)]
+    pub fn query_slot(&self, number: u32) -> usize
+        ensures { result ≡ slot_of self.now (query number) }
+    {
+        number as usize
+    }
+
+    /// The slot of the entry's variable with this number.
+    #[inline(always)]
+    pub fn entry_slot(&self, number: u32) -> usize
+        ensures { result ≡ slot_of self.now (entry number) }
+    {
+        self.query as usize + number as usize
+    }
+
+    /// The slot of the indicator with this number.
+    #[inline(always)]
+    pub fn indicator_slot(&self, number: u32) -> usize
+        ensures { result ≡ slot_of self.now (ind number) }
+    {
+        self.query as usize + self.entry as usize + number as usize
+    }
+
+    /// Whether the slot is one of the entry's variables.
+    pub fn is_entry_slot(&self, slot: usize) -> bool
+        ensures { IsTrue result ↔ ((n : ℕ) × (variable_of self.now slot ≡ entry n)) }
+    {
+        let first = self.query as usize;
+        slot >= first && slot < first + self.entry as usize
+    }
+
     /// The slot of a variable's cell.
     pub fn slot_of(&self, cell: Cell) -> Option<usize>
         ensures { result ≡ cell_slot self.now cell }
     {
         match cell {
             Cell::App { .. } => None,
-            Cell::Query(number) => Some(number as usize),
-            Cell::Entry(number) => Some(self.query as usize + number as usize),
-            Cell::Ind(number) => {
-                Some(self.query as usize + self.entry as usize + number as usize)
-            }
+            Cell::Query(number) => Some(self.query_slot(number)),
+            Cell::Entry(number) => Some(self.entry_slot(number)),
+            Cell::Ind(number) => Some(self.indicator_slot(number)),
         }
     }
 

@@ -14,7 +14,7 @@ use Rattle.si_state.specs.States.{State, empty_state}
 use Rattle.si_state.specs.Harvest.{Files}
 use Rattle.si_steps.specs.Loads.{Owed, nothing, together}
 use Rattle.si_steps.specs.Steps.{Step}
-use Rattle.si_session.proofs.Told.{ended-append}
+use Rattle.si_session.proofs.EndedLines.{ended-append}
 use Rattle.stindex.specs.Lines.{IsLineEnd}
 use Rattle.si_steps.specs.Runs.{ended, IsOneLine, Splits, lines_at_end, Request, a_word, a_line, requests, Acts, GoesOn}
 use Rattle.stindex.specs.Shown.{ShowsAt, ShownRun}

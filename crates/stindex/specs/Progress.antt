@@ -7,13 +7,13 @@ use Rattle.si_steps.specs.Replies.{Reply}
 use Rattle.si_state.specs.States.{State, empty_state}
 use Rattle.si_state.specs.Harvest.{Files}
 use Rattle.si_steps.specs.Loads.{Owed}
-use Rattle.si_session.specs.Session.{View, Around, KeepsFiles}
+use Rattle.si_session.specs.Session.{View, Around}
 use Rattle.si_steps.specs.Runs.{ended, Splits, lines_at_end, Request, a_word, requests, Acts, GoesOn}
 use Rattle.si_session.specs.declared.stepped.Stepped.{Stepped}
 use Rattle.si_session.specs.declared.stepped.Stepped.TheVariants.{Refused, SinkFailed}
 use Rattle.si_io.specs.Sends.{SendsAll}
 use Rattle.si_io.specs.Gives.{Gives}
-use Rattle.si_io.specs.Shown.{SourceShown, SinkShown}
+use Rattle.si_io.specs.Shown.{SourceShown, SinkShown, KeepsFiles}
 use Rattle.stindex.specs.declared.status.Stop.{Stop}
 use Rattle.stindex.specs.declared.status.Stop.TheVariants as stop
 use Rattle.stindex.specs.Shown.{ShowsAt, ShownRun}

@@ -229,7 +229,7 @@ MayWrite setting told strict files taken lines rest now reply output owed =
 
 -- What the run may write fits the room, whatever it takes of what the source has left, and where
 -- the words are declined, what is said then. If the library can't fail, this is asked of the
--- outputs alone that tell no failure.
+-- outputs alone that report no failure.
 pub record HasRoomForOutputs (limits : Limits) (told : Option Files) (words : List Bytes)
     (may_fail : Bool) (left : Option Bytes) (room : ℕ) : Type 0 where
   pub usage : takes program words ≡ false → length usage_line ≤ room
@@ -277,15 +277,15 @@ ServesAsSaid limits words status before after = IsPlain words
 
 -- No device's fault ends a run whose source can't fail, and whose sink has room for all that may be
 -- written.
-abbrev pub IsSureWithRoom : Limits → (words : List Bytes) → Status → Devices → Type 0
-IsSureWithRoom limits words status before = IsFalse before.source.may_fail
+abbrev pub IsFaultlessWithRoom : Limits → (words : List Bytes) → Status → Devices → Type 0
+IsFaultlessWithRoom limits words status before = IsFalse before.source.may_fail
     → HasRoomForOutputs limits before.library.files words before.library.may_fail
     before.source.left before.sink.told.room
     → IsFaultless status
 
--- No device's fault ends a run in which neither the source's nor the sink's count of faults rose.
-abbrev pub IsFaultlessUnlessRose : Status → (before after : Devices) → Type 0
-IsFaultlessUnlessRose status before after =
+-- No device's fault ends a run in which neither the source nor the sink counted one.
+abbrev pub IsFaultlessUnlessCounted : Status → (before after : Devices) → Type 0
+IsFaultlessUnlessCounted status before after =
     (Rose before.source.counts.faults after.source.counts.faults → ⊥)
     → (Rose before.sink.counts.faults after.sink.counts.faults → ⊥)
     → IsFaultless status

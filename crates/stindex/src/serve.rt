@@ -6,10 +6,10 @@ ghost use Rattle.si_steps.specs.Runs.{a_word, a_line};
 ghost use Rattle.si_state.specs.States.{empty_state};
 ghost use Rattle.si_steps.specs.Limits.{AllowsLimits};
 ghost use Rattle.si_steps.specs.Settings.{setting_of};
-ghost use Rattle.si_io.specs.Shown.{SourceShown};
-ghost use Rattle.si_session.specs.Session.{IsFresh, KeepsFiles, around};
+ghost use Rattle.si_io.specs.Shown.{SourceShown, KeepsFiles};
+ghost use Rattle.si_session.specs.Session.{IsFresh, around};
 ghost use Rattle.stindex.specs.Lines.{held_of, limit_of};
-ghost use Rattle.stindex.specs.Serve.{AnswersWords, ServesAsSaid, ServesAsked, IsSureWithRoom, IsFaultlessUnlessRose, HasCauses, WritesUsage, devices};
+ghost use Rattle.stindex.specs.Serve.{AnswersWords, ServesAsSaid, ServesAsked, IsFaultlessWithRoom, IsFaultlessUnlessCounted, HasCauses, WritesUsage, devices};
 ghost use Rattle.stindex.specs.Words.{asked_of};
 ghost use Rattle.stindex.specs.declared.status.Status.TheVariants.{Memory};
 ghost use Rattle.stindex.specs.Progress.{Judges, ActsOrStops, LoadsOrStops, FeedsOrStops, ClosesOrStops};
@@ -27,8 +27,8 @@ use std::io::{Error, ErrorKind};
 const CHUNK: usize = 4096;
 
 /// Reads the words as `stindex [--strict] [FILE]...`, loads the files, reads the input to its end,
-/// line by line, and writes the reply to each. Files come from the library. It declines no words
-/// where no two are `--strict` and none of the others starts with `-`.
+/// line by line, and writes the reply to each. Files come from the library. Words of which at most
+/// one is `--strict`, and no other begins with `-`, are never declined.
 ///
 /// After as many bytes as a session may have it reads no more.
 pub fn serve<S: Source, K: Sink, L: Library>(
@@ -44,27 +44,27 @@ pub fn serve<S: Source, K: Sink, L: Library>(
     ensures answers { AnswersWords limits.now (map string_bytes words.entry.now) result
         (devices (S.shown source.old) (K.shown sink.old) (L.shown library.old))
         (devices (S.shown source.new) (K.shown sink.new) (L.shown library.new)) }
-    // Words as said above are served as they read.
+    // Words of that form are served as they read.
     ensures plain { ServesAsSaid limits.now (map string_bytes words.entry.now) result
         (devices (S.shown source.old) (K.shown sink.old) (L.shown library.old))
         (devices (S.shown source.new) (K.shown sink.new) (L.shown library.new)) }
     // The library's files stay.
     ensures library { KeepsFiles (L.shown library.old) (L.shown library.new) }
-    // A fault that ends the run was counted, and no other one of the source or the sink.
+    // Where a fault of the source or the sink ends the run, it was counted, and no other one was.
     ensures causes { HasCauses result (S.shown source.old) (S.shown source.new)
         (K.shown sink.old) (K.shown sink.new) }
-    // A source that can't fail, and a sink that has room, bring no fault.
-    ensures sure { IsSureWithRoom limits.now (map string_bytes words.entry.now) result
+    // None ends it where the source can't fail, and the sink has room.
+    ensures sure { IsFaultlessWithRoom limits.now (map string_bytes words.entry.now) result
         (devices (S.shown source.old) (K.shown sink.old) (L.shown library.old)) }
-    // Nor do those whose counts of faults didn't rise.
-    ensures faultless { IsFaultlessUnlessRose result
+    // None ends it where neither counted one.
+    ensures faultless { IsFaultlessUnlessCounted result
         (devices (S.shown source.old) (K.shown sink.old) (L.shown library.old))
         (devices (S.shown source.new) (K.shown sink.new) (L.shown library.new)) }
 {
     match read_words(alloc, words) {
         Ok(matches) => start(alloc, &matches, limits, source, sink, library),
         Err(WordFault::Memory) => Status::Memory,
-        Err(WordFault::Usage) => tell_usage(sink),
+        Err(WordFault::Usage) => report_usage(sink),
     }
 }
 
@@ -79,12 +79,12 @@ pub fn decline<K: Sink>(error: &Error, sink: &mut K) -> Status
 {
     match error.kind() {
         ErrorKind::OutOfMemory => Status::Memory,
-        _ => tell_usage(sink),
+        _ => report_usage(sink),
     }
 }
 
 /// Says how to call the program.
-fn tell_usage<K: Sink>(sink: &mut K) -> Status
+fn report_usage<K: Sink>(sink: &mut K) -> Status
     ensures written { WritesUsage result (K.shown sink.old) (K.shown sink.new) }
     ensures causes { (source : SourceShown)
         → HasCauses result source source (K.shown sink.old) (K.shown sink.new) }

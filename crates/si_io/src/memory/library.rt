@@ -81,7 +81,7 @@ impl Library for MemoryLibrary {
             return self.counts.count(Fetched::TooBig);
         }
         match into.extend_from_slice(bytes) {
-            Ok(()) => self.counts.count(Fetched::Found),
+            Ok(()) => self.counts.count(Fetched::File),
             Err(_) => self.counts.count(Fetched::Memory),
         }
     }

@@ -1,6 +1,6 @@
 ghost use Rattle.std.specs.Prelude.{◌≡◌, ◌-◌, ◌<◌, ◌≤◌, [], length, take, drop, vec_len, IfOk, OnOk};
 ghost use Rattle.std.specs.Io.KnownBytes.{Consumes, IsAtEnd};
-ghost use Rattle.si_io.specs.Disk.{AsksFor, FetchesAnswer, is_found, unfetched};
+ghost use Rattle.si_io.specs.Disk.{AsksFor, FetchesAnswer, is_file, unfetched};
 ghost use Rattle.si_io.specs.Library.{IsFileRead};
 
 use super::again::{open_again, read_again};
@@ -73,18 +73,18 @@ impl<D: Disk> Library for RealLibrary<D> {
     {
         into.clear();
         let answer = fetch_file(&mut self.disk, name, into, limit);
-        if !is_found(answer) {
+        if !is_file(answer) {
             into.clear();
         }
         self.counts.count(answer)
     }
 }
 
-fn is_found(answer: Fetched) -> bool
-    ensures { result ≡ is_found answer }
+fn is_file(answer: Fetched) -> bool
+    ensures { result ≡ is_file answer }
 {
     match answer {
-        Fetched::Found => true,
+        Fetched::File => true,
         _ => false,
     }
 }
@@ -133,7 +133,7 @@ fn read_file<F: Input>(file: &mut F, into: &mut Vec<u8>, limit: usize) -> Fetche
         match read_after(file, into, filled) {
             Ok(0) => {
                 into.truncate(filled);
-                return Fetched::Found;
+                return Fetched::File;
             }
             Ok(count) => filled += count,
             Err(_) => return Fetched::Failed,

@@ -4,8 +4,8 @@ ghost use Rattle.si_defs.specs.Clauses.{IsSoundPattern, literal_pattern};
 ghost use Rattle.si_defs.specs.Grammar.{IsAtom, IsLiteral, not_equal};
 ghost use Rattle.si_defs.specs.declared.Side.TheVariants.{Predicate};
 ghost use Rattle.si_lex.specs.Lexemes.{token_of, tokens_of};
-ghost use Rattle.si_parse.specs.GrammarRules.{IsNegated, IsSign, IsStatement, as_atom, equation};
-ghost use Rattle.si_parse.specs.Parsing.{Anything, IfFound, IfLeft, NoSign, Reads};
+ghost use Rattle.si_parse.specs.GrammarRules.{IsNegated, IsEquationSign, IsStatement, as_atom, equation};
+ghost use Rattle.si_parse.specs.Parsing.{Anything, IfFound, IfLeft, NoEquation, Reads};
 ghost use Rattle.si_defs.specs.declared.TheConstants.{MOST_BYTES};
 ghost use Rattle.si_term.specs.Meaning.{literal_of};
 ghost use Rattle.si_term.specs.Terms.{term_of};
@@ -27,14 +27,14 @@ pub fn literal<'t, 'b>(
     tokens: &'t [Lexeme<'b>],
 ) -> Result<Parsed<'t, 'b, Literal>, AllocError>
     requires { length tokens.now ≤ MOST_BYTES }
-    ensures read { IfOk result (Reads literal_of IsLiteral NoSign tokens.now) }
-    ensures ends { IfOk result (IfLeft NoSign) }
+    ensures read { IfOk result (Reads literal_of IsLiteral NoEquation tokens.now) }
+    ensures ends { IfOk result (IfLeft NoEquation) }
     ensures sound { IfOk result (IfFound (λ l. IsSoundPattern (literal_pattern (literal_of l)))) }
 {
     let Some((literal, rest)) = front_literal(alloc, tokens)? else {
         return Ok(None);
     };
-    if sign_follows(rest) {
+    if equation_follows(rest) {
         return Ok(None);
     }
     Ok(Some((literal, rest)))
@@ -46,7 +46,7 @@ pub(crate) fn front_literal<'t, 'b>(
     tokens: &'t [Lexeme<'b>],
 ) -> Result<Parsed<'t, 'b, Literal>, AllocError>
     requires { length tokens.now ≤ MOST_BYTES }
-    ensures { IfOk result (Reads literal_of IsLiteral NoSign tokens.now) }
+    ensures { IfOk result (Reads literal_of IsLiteral NoEquation tokens.now) }
 {
     let Some(behind) = mark_at(tokens, b'~') else {
         return statement(alloc, tokens);
@@ -69,7 +69,7 @@ fn negated<'t, 'b>(
     tokens: &'t [Lexeme<'b>],
 ) -> Result<Parsed<'t, 'b, Term>, AllocError>
     requires { length tokens.now ≤ MOST_BYTES }
-    ensures { IfOk result (Reads term_of IsNegated NoSign tokens.now) }
+    ensures { IfOk result (Reads term_of IsNegated NoEquation tokens.now) }
 {
     let Some(inside) = mark_at(tokens, b'(') else {
         return atom(alloc, tokens);
@@ -86,7 +86,7 @@ fn negated<'t, 'b>(
 /// The atom at the front: a predicate with its arguments, or two terms with `=` between them.
 fn atom<'t, 'b>(alloc: Global, tokens: &'t [Lexeme<'b>]) -> Result<Parsed<'t, 'b, Term>, AllocError>
     requires { length tokens.now ≤ MOST_BYTES }
-    ensures { IfOk result (Reads term_of IsAtom NoSign tokens.now) }
+    ensures { IfOk result (Reads term_of IsAtom NoEquation tokens.now) }
 {
     let Some((literal, rest)) = statement(alloc, tokens)? else {
         return Ok(None);
@@ -105,12 +105,12 @@ fn statement<'t, 'b>(
     tokens: &'t [Lexeme<'b>],
 ) -> Result<Parsed<'t, 'b, Literal>, AllocError>
     requires { length tokens.now ≤ MOST_BYTES }
-    ensures { IfOk result (Reads literal_of IsStatement NoSign tokens.now) }
+    ensures { IfOk result (Reads literal_of IsStatement NoEquation tokens.now) }
 {
     let Some((left, behind)) = front_term(alloc, tokens)? else {
         return Ok(None);
     };
-    let Some((positive, next)) = sign(behind) else {
+    let Some((positive, next)) = equation_sign(behind) else {
         return match predicate(left) {
             Some(atom) => Ok(Some((
                 Literal {
@@ -131,15 +131,15 @@ fn statement<'t, 'b>(
 
 /// Whether a bracket or the sign of an equation stands in front, so that a literal before it goes
 /// on.
-fn sign_follows(tokens: &[Lexeme]) -> bool
-    ensures { IsFalse result ↔ NoSign (tokens_of tokens.now) }
+fn equation_follows(tokens: &[Lexeme]) -> bool
+    ensures { IsFalse result ↔ NoEquation (tokens_of tokens.now) }
 {
-    bracket_follows(tokens) || sign(tokens).is_some()
+    bracket_follows(tokens) || equation_sign(tokens).is_some()
 }
 
 /// The sign of an equation at the front: `=`, or `!=` for its negation.
-pub fn sign<'t, 'b>(tokens: &'t [Lexeme<'b>]) -> Parsed<'t, 'b, bool>
-    ensures { Reads (λ b. b) IsSign Anything tokens.now result }
+pub fn equation_sign<'t, 'b>(tokens: &'t [Lexeme<'b>]) -> Parsed<'t, 'b, bool>
+    ensures { Reads (λ b. b) IsEquationSign Anything tokens.now result }
 {
     match tokens {
         [first, rest @ ..] if first.is_mark(b'=') => Some((true, rest)),

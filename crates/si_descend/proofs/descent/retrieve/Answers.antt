@@ -1,4 +1,4 @@
-use Rattle.std.proofs.Common.{◌+◌, length, ap, ◌∙◌, subst, arith}
+use Rattle.std.proofs.Common.{length, ap, ◌∙◌, subst, arith}
 use Rattle.std.proofs.lemmas.Result.{IfOk-weaker}
 use Rattle.si_descend.proofs.Retrieving.{bound_first, found_retrieves}
 use Rattle.si_descend.specs.Answers.{Finds}
@@ -7,13 +7,13 @@ use Rattle.si_descend.proofs.descent.retrieve.Goals as goal
 
 pub bind-requires-clause-in_range : goal.bind-requires-clause-in_range
 bind-requires-clause-in_range c =
-    omega (arith, ap (λ t. t.slots) c.in_ok-trail.ensures, c.count.ensures.count, c.slots_for-slots.ensures.inds, c.root-root.ensures.legal.zero_known)
+    omega (arith, ap (λ t. t.slots) c.in_ok-trail.ensures, c.count.ensures.count, c.indicator_slot.ensures, c.slots_for-slots.ensures.inds, c.root-root.ensures.legal.zero_known)
 
 pub descend-passed-requires : goal.descend-passed-requires
 descend-passed-requires c =
     may_begin c.args.tree.now c.root-root.result c.args.relation c.args.query.now c.slots_for-slots.result c.cells-cells.result c.bind.new.self c.root-root.ensures.legal c.root-root.ensures.root c.requires
     (c.slots_for-slots.ensures.query ∙ ap length c.cells-cells.ensures.cells) c.slots_for-slots.ensures.entry c.slots_for-slots.ensures.inds c.slots_for-slots.ensures.freezes c.cells-cells.ensures.cells
-    (bound_first c.bind.new.self.pairs c.in_ok-trail.trail.pairs (c.slots_for-slots.result.query + c.slots_for-slots.result.entry, c.cells-cells.result) c.bind.ensures.pairs (ap (λ t. t.pairs) c.in_ok-trail.ensures))
+    (bound_first c.slots_for-slots.result c.bind.new.self.pairs c.in_ok-trail.trail.pairs c.indicator_slot.result c.cells-cells.result c.indicator_slot.ensures c.bind.ensures.pairs (ap (λ t. t.pairs) c.in_ok-trail.ensures))
     (c.bind.ensures.slots ∙ ap (λ t. t.slots) c.in_ok-trail.ensures ∙ c.count.ensures.count)
 
 pub returns-clause-retrieves : goal.returns-clause-retrieves

@@ -1,4 +1,5 @@
-use Rattle.std.proofs.Common.{sym}
+use Rattle.std.proofs.Common.{sym, ◌∙◌, ap}
+use Rattle.si_trail.specs.Trails.{value_at}
 use Rattle.si_unify.specs.Solving.{IsBinding}
 use Rattle.si_unify.proofs.Places.{value_holds}
 use Rattle.si_descend.proofs.HeadLaws.{split_wanted}
@@ -16,4 +17,4 @@ first-requires c = (c.end_of-end.ensures.ends.last, c.end_of-end.ensures.ends.la
 pub returns : goal.returns
 returns c =
     split_wanted c.args.search.now c.args.node c.args.trail.now.pairs c.args.trail.now.slots c.in-Some.split c.in-Some-get.value.now c.end_of-end.result.now c.first.result c.requires.solving
-    (λ n has. sym (c.in-Some.ensures n has)) c.in-Some-get.ensures c.end_of-end.ensures.ends c.first.ensures
+    (λ n has. sym (c.in-Some.ensures n has)) (c.in-Some-get.ensures ∙ ap (value_at c.args.trail.now.pairs) c.indicator_slot.ensures) c.end_of-end.ensures.ends c.first.ensures

@@ -48,8 +48,8 @@ returns-clause-first_clause c =
 pub returns-clause-no_empty_formula : goal.returns-clause-no_empty_formula
 returns-clause-no_empty_formula c = λ item h. bracket_opens (full_stop ∷ []) (item_opens item (right_bracket ∷ full_stop ∷ []) h)
 
-pub returns-clause-no_sign_alone : goal.returns-clause-no_sign_alone
-returns-clause-no_sign_alone c = λ item h. sign_opens (full_stop ∷ []) (item_opens item (mark 126 ∷ right_bracket ∷ full_stop ∷ []) h)
+pub returns-clause-no_tilde_alone : goal.returns-clause-no_tilde_alone
+returns-clause-no_tilde_alone c = λ item h. sign_opens (full_stop ∷ []) (item_opens item (mark 126 ∷ right_bracket ∷ full_stop ∷ []) h)
 
 pub returns-clause-no_open_bracket : goal.returns-clause-no_open_bracket
 returns-clause-no_open_bracket c = no_open_bracket

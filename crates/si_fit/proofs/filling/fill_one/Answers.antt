@@ -1,6 +1,7 @@
-use Rattle.std.proofs.Common.{sym, ap, subst}
+use Rattle.std.proofs.Common.{◌∷◌, [], ◌++◌, sym, ◌∙◌, ap, subst}
 use Rattle.si_flat.specs.Cells.{ind}
 use Rattle.si_flat.proofs.Subterms.{some_cell}
+use Rattle.si_trail.specs.Trails.{value_at}
 use Rattle.si_unify.specs.Solving.{slot_of, CellIsInRange, AllowsSolving}
 use Rattle.si_unify.specs.Spots.{free_slot}
 use Rattle.si_unify.proofs.Places.{in_range-at}
@@ -19,7 +20,8 @@ pub bind-requires-clause-unbound : goal.bind-requires-clause-unbound
 bind-requires-clause-unbound c =
     let ends = c.end_of-end.ensures.ends in
     let fresh = c.requires.fresh c.in-Ind.number c.in-Ind.is in
-    slot_unbound c.args.slots.now c.args.trail.now.pairs c.in-Ind.number c.args.trail.now.slots c.end_of-end.result c.requires.terms.ready
+    ap (value_at c.args.trail.now.pairs) c.indicator_slot.ensures
+    ∙ slot_unbound c.args.slots.now c.args.trail.now.pairs c.in-Ind.number c.args.trail.now.slots c.end_of-end.result c.requires.terms.ready
     (subst (CellIsInRange c.args.slots.now) c.in-Ind.is (in_range-at c.args.slots.now c.args.right.now 0 no_cell c.requires.terms.right_range (some_cell c.args.right.now c.requires.terms.right)))
     fresh.0 (ends.last, ends.last_stands) c.end_of-end.ensures.range
     (end_still_lacks c.args.slots.now c.args.trail.now.pairs c.args.left.now c.end_of-end.result.now c.in-Ind.number c.args.trail.now.slots c.requires.terms.ready c.mark.ensures.distinct fresh.0 ends fresh.1)
@@ -29,7 +31,7 @@ returns-in-Ind-clause-met c =
     end_met c.args.slots.now c.args.trail.now.pairs c.bind.new.self.pairs c.args.left.now c.end_of-end.result.now c.args.right.now Equal c.end_of-end.ensures.ends
     (right_met c.args.slots.now c.args.trail.now.pairs c.bind.new.self.pairs (slot_of c.args.slots.now (ind c.in-Ind.number)) c.end_of-end.result.now c.args.right.now Equal
     (variable_at c.args.slots.now (slot_of c.args.slots.now (ind c.in-Ind.number)) c.args.right.now c.requires.terms.right c.requires.terms.right_range (ap (free_slot c.args.slots.now) c.in-Ind.is))
-    (subst (λ l. HasMet c.args.slots.now c.args.trail.now.pairs l (slot_cells c.args.slots.now (slot_of c.args.slots.now (ind c.in-Ind.number))) c.end_of-end.result.now Equal) (sym c.bind.ensures.pairs) (pair_met c.args.slots.now c.args.trail.now.pairs (slot_of c.args.slots.now (ind c.in-Ind.number)) c.end_of-end.result)))
+    (subst (λ l. HasMet c.args.slots.now c.args.trail.now.pairs l (slot_cells c.args.slots.now (slot_of c.args.slots.now (ind c.in-Ind.number))) c.end_of-end.result.now Equal) (sym (c.bind.ensures.pairs ∙ ap (λ k. c.args.trail.now.pairs ++ (k, c.end_of-end.result) ∷ []) c.indicator_slot.ensures)) (pair_met c.args.slots.now c.args.trail.now.pairs (slot_of c.args.slots.now (ind c.in-Ind.number)) c.end_of-end.result)))
 
 pub returns-in-Ind-clause-trail : goal.returns-in-Ind-clause-trail
 returns-in-Ind-clause-trail c = record {
@@ -38,7 +40,7 @@ returns-in-Ind-clause-trail c = record {
       let ends = c.end_of-end.ensures.ends in
       let fresh = c.requires.fresh c.in-Ind.number c.in-Ind.is in
       subst (AllowsSolving c.args.slots.now c.bind.new.self.pairs) (sym c.bind.ensures.slots)
-      (subst (λ l. AllowsSolving c.args.slots.now l c.args.trail.now.slots) (sym c.bind.ensures.pairs)
+      (subst (λ l. AllowsSolving c.args.slots.now l c.args.trail.now.slots) (sym (c.bind.ensures.pairs ∙ ap (λ k. c.args.trail.now.pairs ++ (k, c.end_of-end.result) ∷ []) c.indicator_slot.ensures))
       (fresh_ready c.args.slots.now c.args.trail.now.pairs c.in-Ind.number c.args.trail.now.slots c.end_of-end.result c.requires.terms.ready
       (subst (CellIsInRange c.args.slots.now) c.in-Ind.is (in_range-at c.args.slots.now c.args.right.now 0 no_cell c.requires.terms.right_range (some_cell c.args.right.now c.requires.terms.right)))
       fresh.0 (ends.last, ends.last_stands) c.end_of-end.ensures.range
@@ -48,4 +50,4 @@ returns-in-Ind-clause-trail c = record {
 
 pub returns-in-Ind-clause-within : goal.returns-in-Ind-clause-within
 returns-in-Ind-clause-within c = λ n values left right.
-    bound_within c.args.trail.now.pairs c.bind.new.self.pairs (slot_of c.args.slots.now (ind c.in-Ind.number)) c.end_of-end.result c.bind.ensures.pairs n values (c.end_of-end.ensures.within n values left)
+    bound_within c.args.trail.now.pairs c.bind.new.self.pairs (slot_of c.args.slots.now (ind c.in-Ind.number)) c.end_of-end.result (c.bind.ensures.pairs ∙ ap (λ k. c.args.trail.now.pairs ++ (k, c.end_of-end.result) ∷ []) c.indicator_slot.ensures) n values (c.end_of-end.ensures.within n values left)

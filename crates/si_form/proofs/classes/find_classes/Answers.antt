@@ -5,7 +5,7 @@ use Rattle.si_unify.proofs.Places.{value_holds}
 use Rattle.si_form.specs.Ordering.{uses_at, HasNoCircle, AreOrdered}
 use Rattle.si_form.specs.Classes.{HasClass}
 use Rattle.si_form.proofs.UsesLaws.{no_circle}
-use Rattle.si_form.proofs.ClassLaws.{classing_begins, classing_skips, classing_more, classing_ends, slot_inside}
+use Rattle.si_form.proofs.ClassLaws.{classing_begins, left_bound, classing_more, classing_ends, slot_inside}
 use Rattle.si_form.proofs.classes.find_classes.Goals as goal
 
 pub order-requires : goal.order-requires
@@ -18,9 +18,9 @@ loop-slot-init c =
     classing_begins c.args.slots.now c.args.trail.now.pairs c.in_ok-lists.lists.items c.in_ok-lists.ensures.long c.in_ok-lists.ensures.lists c.requires.bindings
     _ _ c.in_ok-left.left.items (subst (λ l. AreOrdered (uses_at l) c.in_ok-left.left.items) c.deref.ensures.value c.in_ok-left.ensures) c.in_ok-nodes.ensures
 
-pub loop-slot-preserved-in_default-get : goal.loop-slot-preserved-in_default-get
-loop-slot-preserved-in_default-get c =
-    classing_skips c.args.slots.now c.args.trail.now.pairs c.in_ok-lists.lists.items c.in_ok-lists.ensures.long c.in_ok-lists.ensures.lists c.requires.bindings
+pub unreachable-requires : goal.unreachable-requires
+unreachable-requires c =
+    left_bound c.args.slots.now c.args.trail.now.pairs c.in_ok-lists.lists.items c.in_ok-lists.ensures.long c.in_ok-lists.ensures.lists c.requires.bindings
     _ _ _ _ c.in-Some.slot c.in-Some.ensures.items c.loop-slot.invariant (sym c.in_default-get.ensures)
 
 pub class_of-requires-clause-whole : goal.class_of-requires-clause-whole

@@ -1,11 +1,15 @@
 use Rattle.std.proofs.Common.{sym, arith}
 use Rattle.si_form.specs.Direct.{IsDirect}
+use Rattle.si_unify.proofs.Lists.{slot_bound}
 use Rattle.si_form.proofs.DirectLaws.{some_cells}
 use Rattle.si_form.proofs.PairLaws.{all_more, all_begins, all_ends, pair_at}
 use Rattle.si_form.proofs.direct.are_direct.Goals as goal
 
 pub loop-n-init : goal.loop-n-init
 loop-n-init c = all_begins (IsDirect c.args.slots.now c.args.trail.now.pairs) c.args.trail.now.pairs
+
+pub unreachable-requires : goal.unreachable-requires
+unreachable-requires c = slot_bound c.args.trail.now.pairs c.loop-n.n c.slot-slot.result c.slot-slot.ensures (sym c.in_default.ensures)
 
 pub is_direct-requires : goal.is_direct-requires
 is_direct-requires c = some_cells c.args.slots.now c.args.trail.now.pairs c.requires c.slot-slot.result c.in-Some.value.now (sym c.in-Some.ensures)

@@ -1,7 +1,8 @@
 use Rattle.std.proofs.Common.{◌≡◌, None, Some, sym, ◌∙◌, ap, arith}
 use Rattle.std.proofs.lemmas.Option.{same_Some}
+use Rattle.si_unify.proofs.Lists.{slot_bound}
 use Rattle.si_form.proofs.DirectLaws.{some_cells}
-use Rattle.si_form.proofs.PairLaws.{pair_at, slot_bound}
+use Rattle.si_form.proofs.PairLaws.{pair_at}
 use Rattle.si_form.proofs.RenamingLaws.{first_begins, first_stays, first_moves, first_ends}
 use Rattle.si_form.proofs.direct.first_of.Goals as goal
 
@@ -12,8 +13,8 @@ pub loop-n-preserved-then-other-first : goal.loop-n-preserved-then-other-first
 loop-n-preserved-then-other-first c =
     first_stays c.args.slots.now c.args.trail.now.pairs c.args.slot c.loop-n.n c.loop-n.first c.slot-other.result c.slot-other.ensures.0 c.slot-other.ensures.1 c.loop-n.invariant (λ e. c.if-other-first.true)
 
-pub loop-n-preserved-in_default : goal.loop-n-preserved-in_default
-loop-n-preserved-in_default c = absurd (slot_bound c.args.trail.now.pairs c.loop-n.n c.slot-other.result c.slot-other.ensures (sym c.in_default.ensures))
+pub unreachable-requires : goal.unreachable-requires
+unreachable-requires c = slot_bound c.args.trail.now.pairs c.loop-n.n c.slot-other.result c.slot-other.ensures (sym c.in_default.ensures)
 
 pub bounds-value-0 : goal.bounds-value-0
 bounds-value-0 c = some_cells c.args.slots.now c.args.trail.now.pairs c.requires c.slot-other.result c.in-Some.value.now (sym c.in-Some.ensures)

@@ -1,5 +1,6 @@
 use Rattle.std.proofs.Common.{◌≢◌, sym, arith}
 use Rattle.si_unify.specs.Solving.{IsPieceOf}
+use Rattle.si_unify.proofs.Lists.{slot_bound}
 use Rattle.si_form.proofs.PairLaws.{all_more, all_begins, all_ends, pair_at}
 use Rattle.si_form.proofs.direct.stands_apart.Goals as goal
 
@@ -10,6 +11,9 @@ pub loop-n-preserved-then-other-slot : goal.loop-n-preserved-then-other-slot
 loop-n-preserved-then-other-slot c =
     all_more (λ other. other.0 ≢ c.args.slot → IsPieceOf other.1.now c.args.value.now → ⊥) c.args.trail.now.pairs c.loop-n.n
     (c.slot-other.result, c.slot-other.ensures.0) c.slot-other.ensures.1 (λ differs piece. differs c.if-other-slot.true) c.loop-n.invariant
+
+pub unreachable-requires : goal.unreachable-requires
+unreachable-requires c = slot_bound c.args.trail.now.pairs c.loop-n.n c.slot-other.result c.slot-other.ensures (sym c.in_default.ensures)
 
 pub loop-n-preserved : goal.loop-n-preserved
 loop-n-preserved c =

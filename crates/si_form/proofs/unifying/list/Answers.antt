@@ -1,14 +1,14 @@
 use Rattle.std.proofs.Common.{get_or, refl, sym, ◌∙◌, ap, subst}
 use Rattle.si_flat.specs.Cells.{IsWhole}
 use Rattle.si_form.specs.Ordering.{list_of}
-use Rattle.si_form.proofs.UnifierThere.{lists_skip, lists_more, listed_at, whole_cells, right_at, lists_end}
+use Rattle.si_form.proofs.UnifierThere.{lists_more, listed_at, listed_some, whole_cells, right_at, lists_end}
 use Rattle.si_form.proofs.unifying.list.Goals as goal
 
-pub loop-slot-preserved-in_default : goal.loop-slot-preserved-in_default
-loop-slot-preserved-in_default c =
+pub unreachable-requires : goal.unreachable-requires
+unreachable-requires c =
     let k = get_or c.args.order.now c.loop-slot.slot-index 0 in
     let inside = listed_at c.args.slots.now c.args.rights.now c.args.order.now c.loop-slot.slot-index k c.loop-slot-test.true refl c.requires.long c.requires.listed in
-    lists_skip c.args.slots.now c.args.rights.now c.args.order.now c.loop-slot.slot-index k c.loop-slot.solution c.loop-slot-test.true refl c.loop-slot.invariant inside
+    listed_some c.args.slots.now c.args.rights.now c.args.order.now c.loop-slot.slot-index k c.loop-slot-test.true refl c.requires.listed inside
     (right_at c.args.slots.now c.args.rights.now c.args.order.now k c.index-rights-slot.result inside c.index-rights-slot.is ∙ ap list_of c.in_default.is)
 
 pub from_cells-requires : goal.from_cells-requires

@@ -1,4 +1,4 @@
-use Rattle.std.proofs.Common.{◌∷◌, [], Some, sym, ◌∙◌, ap, subst, arith, refl}
+use Rattle.std.proofs.Common.{◌∷◌, [], Some, sym, ◌∙◌, ap, subst}
 use Rattle.si_form.specs.Unifying.{IsBoundTo}
 use Rattle.si_form.proofs.FoundLaws.{class_inside, leader_inside, unled, follower_side, unbound_side, some_fold, leader_side}
 use Rattle.si_form.proofs.unifying.right_side.Goals as goal

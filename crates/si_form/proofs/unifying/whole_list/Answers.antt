@@ -3,7 +3,7 @@ use Rattle.std.proofs.lemmas.Result.{IfOk-weaker}
 use Rattle.si_form.specs.Ordering.{uses_at, HasNoCircle, AreOrdered}
 use Rattle.si_form.specs.Unifying.{AreUses, AreListed, ListsBindings}
 use Rattle.si_form.proofs.TrailLaws.{has_general}
-use Rattle.si_form.proofs.UnifierThere.{no_circle, all_listed, whole_of}
+use Rattle.si_form.proofs.UnifierThere.{no_circle, all_listed, is_whole_list}
 use Rattle.si_form.proofs.unifying.whole_list.Goals as goal
 
 pub order-requires : goal.order-requires
@@ -30,7 +30,7 @@ pub returns-clause-all : goal.returns-clause-all
 returns-clause-all c =
     IfOk-weaker c.list.result _ _
     (λ bindings h f general.
-    whole_of c.args.slots.now c.in_ok-rights.rights.items c.in_ok-lists.lists.items c.in_ok-rights.ensures.long
+    is_whole_list c.args.slots.now c.in_ok-rights.rights.items c.in_ok-lists.lists.items c.in_ok-rights.ensures.long
     (c.in_ok-lists.ensures.long ∙ ap (λ l. length l) c.deref.ensures.value)
     (subst (λ l. AreUses c.args.slots.now l c.in_ok-lists.lists.items) c.deref.ensures.value c.in_ok-lists.ensures.uses)
     f (c.in_ok-rights.ensures.rights f general) general.stays c.in_ok-order.order.items bindings

@@ -1,10 +1,10 @@
 use Rattle.std.proofs.Common.{None, [], refl, sym, subst, inr, arith}
 use Rattle.si_state.specs.Harvest.{IsBarred}
-use Rattle.si_harvest.specs.Faults.{Explains, bounds_of}
+use Rattle.si_harvest.specs.Faults.{NamesWhy, bounds_of}
 use Rattle.si_harvest.specs.Gains.{GainsByLoad}
 use Rattle.si_harvest.specs.Opened.{HasFetched}
 use Rattle.si_harvest.specs.Underway.{AreWithin}
-use Rattle.si_harvest.proofs.Errors.{blames_weaker, err_has, reads_fault}
+use Rattle.si_harvest.proofs.Errors.{why_weaker, err_has, reads_fault}
 use Rattle.si_harvest.proofs.Fetching.{none_counted, first_fetch, further_fetch}
 use Rattle.si_harvest.proofs.Moves.{begins, may_begin, never_begins, first_fetched, may_not_begin, is_over}
 use Rattle.si_harvest.proofs.Safety.{within_entered}
@@ -21,7 +21,7 @@ returns-in_err-enter-clause-reads g c =
     (c.enter.ensures.fetches.counted _ (none_counted _ _ c.new-reading.ensures.fetches))
     (first_fetch bounds c.args.name.now c.new-reading.result c.enter.new.self c.new-reading.ensures.files c.new-reading.ensures.fetches c.enter.ensures.fetches.few c.enter.ensures.once)
     (first_fetched told bounds rules start c.args.name.now c.new-reading.result c.enter.new.self.fetches c.new-reading.ensures.files c.new-reading.ensures.fetches c.enter.ensures.once)
-    (blames_weaker rules c.in_err-enter.field-0.0 _ _
+    (why_weaker rules c.in_err-enter.field-0.0 _ _
     (λ fault h. never_begins told bounds rules start c.args.name.now c.new-reading.result c.enter.new.self.fetches fault c.new-reading.ensures.files c.new-reading.ensures.fetches h)
     (c.in_err-enter.ensures.unopened rules))
 
@@ -31,8 +31,8 @@ returns-in_err-enter-clause-start g c = λ never.
     let bounds = bounds_of c.args.limits.now in
     let rules = g.T.ClauseStore.rules c.args.store.now in
     let start = g.T.ClauseStore.clauses c.args.store.now in
-    err_has c.from_residual.result c.in_err-enter.field-0.0 (λ e. Explains rules e (IsBarred bounds [] 0 c.args.name.now)) c.from_residual.ensures.1
-    (blames_weaker rules c.in_err-enter.field-0.0 _ _
+    err_has c.from_residual.result c.in_err-enter.field-0.0 (λ e. NamesWhy rules e (IsBarred bounds [] 0 c.args.name.now)) c.from_residual.ensures.1
+    (why_weaker rules c.in_err-enter.field-0.0 _ _
     (λ fault h. may_not_begin told bounds rules start c.args.name.now c.new-reading.result c.enter.new.self.fetches fault c.new-reading.ensures.files c.new-reading.ensures.fetches never h)
     (c.in_err-enter.ensures.unopened rules))
 
@@ -51,8 +51,7 @@ loop-reading-init g c =
       };
       may = may_begin told bounds (g.T.ClauseStore.rules c.args.store.now) (g.T.ClauseStore.clauses c.args.store.now) c.args.name.now c.new-reading.result c.enter.new.self
           c.new-reading.ensures.files c.new-reading.ensures.fetches c.in_ok-enter.ensures.entered;
-      told = c.enter.ensures.told;
-      same = c.enter.ensures.same;
+      library = c.enter.ensures.library;
       counts = c.in_ok-enter.ensures.cause;
       calls = c.enter.ensures.fetches.counted _ (none_counted _ _ c.new-reading.ensures.fetches);
       few = c.enter.ensures.fetches.few (omega (arith, c.new-reading.ensures.fetches));
@@ -66,7 +65,7 @@ returns-in_err-step-clause-reads g c =
     let rules = g.T.ClauseStore.rules c.args.store.now in
     let start = g.T.ClauseStore.clauses c.args.store.now in
     let invariant = c.loop-reading.invariant in
-    let ended = steps_error _ told bounds _ rules c.loop-reading.reading c.step.new.self (g.T.ClauseStore.clauses c.loop-reading.store) (g.T.ClauseStore.clauses c.step.new.store) c.in_err-step.field-0.0 invariant.told invariant.rules c.in_err-step.ensures.stepped
+    let ended = steps_error _ told bounds _ rules c.loop-reading.reading c.step.new.self (g.T.ClauseStore.clauses c.loop-reading.store) (g.T.ClauseStore.clauses c.step.new.store) c.in_err-step.field-0.0 invariant.library.told invariant.rules c.in_err-step.ensures.stepped
     start c.args.name.now invariant.loading.underway in
     reads_fault told bounds rules c.args.name.now c.from_residual-in_err-step.result c.in_err-step.field-0.0 start _ _ _ c.step.new.self.fetches c.from_residual-in_err-step.ensures.1
     (c.step.ensures.fetches.counted _ invariant.calls)

@@ -1,4 +1,5 @@
 use Rattle.si_io.specs.Library.{faults_in}
+use Rattle.si_io.specs.Shown.{KeepsFiles}
 use Rattle.std.proofs.Common.{◌≡◌, ◌≤◌, []}
 use Rattle.si_io.specs.Counts.{raised_by}
 use Rattle.si_state.specs.Harvest.{MayAsk}
@@ -11,8 +12,7 @@ abbrev pub invariant-loop-reading : goal.invariant-loop-reading
 invariant-loop-reading g l = record {
   loading : IsLoading (g.L.Library.shown l.fn.library).files (bounds_of l.limits) (g.T.ClauseStore.rules l.fn.store) (g.T.ClauseStore.clauses l.fn.store) l.name l.reading (g.T.ClauseStore.clauses l.store) l.loaded;
   may : MayAsk (bounds_of l.limits) [] 0 l.name;
-  told : (g.L.Library.shown l.library).files ≡ (g.L.Library.shown l.fn.library).files;
-  same : (g.L.Library.shown l.library).may_fail ≡ (g.L.Library.shown l.fn.library).may_fail;
+  library : KeepsFiles (g.L.Library.shown l.fn.library) (g.L.Library.shown l.library);
   counts : faults_in (g.L.Library.shown l.library).counts ≡ faults_in (g.L.Library.shown l.fn.library).counts;
   calls : (g.L.Library.shown l.library).counts.calls ≡ raised_by l.reading.fetches (g.L.Library.shown l.fn.library).counts.calls;
   few : l.reading.fetches ≤ l.limits.fetches;

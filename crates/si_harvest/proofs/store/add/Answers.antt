@@ -2,7 +2,7 @@ use Rattle.std.proofs.Common.{sym, subst}
 use Rattle.si_state.specs.Harvest.{IsRejected}
 use Rattle.si_term.specs.Meaning.{clause_of}
 use Rattle.si_sign.specs.Stores.{Rejects}
-use Rattle.si_harvest.specs.Faults.{Explains}
+use Rattle.si_harvest.specs.Faults.{NamesWhy}
 use Rattle.si_harvest.proofs.Gaining.{counts_more, gained_more}
 use Rattle.si_harvest.proofs.store.add.Goals as goal
 
@@ -17,6 +17,6 @@ pub returns-in-Err-clause-refused : goal.returns-in-Err-clause-refused
 returns-in-Err-clause-refused g c =
     let rules = g.T.ClauseStore.rules c.args.store.now in
     let state = g.T.ClauseStore.clauses c.args.store.now in
-    subst (λ k. Explains rules c.refusal.result (IsRejected rules state (clause_of k))) c.in-Err.ensures.handed_back
+    subst (λ k. NamesWhy rules c.refusal.result (IsRejected rules state (clause_of k))) c.in-Err.ensures.handed_back
     (c.refusal.ensures rules state
     (subst (λ k. Rejects rules state (clause_of k) c.in-Err.rejected.why) (sym c.in-Err.ensures.handed_back) c.in-Err.ensures.rejected))

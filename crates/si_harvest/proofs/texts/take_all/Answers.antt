@@ -1,6 +1,6 @@
 use Rattle.std.proofs.Common.{◌∙◌, subst}
 use Rattle.si_harvest.specs.declared.faults.HarvestFault.{HarvestFault}
-use Rattle.si_harvest.specs.Faults.{Explains}
+use Rattle.si_harvest.specs.Faults.{NamesWhy}
 use Rattle.si_harvest.specs.Texts.{RefusesText, RefusesNext}
 use Rattle.si_harvest.proofs.Errors.{err_again}
 use Rattle.si_harvest.proofs.TakingTexts.{some_next, none_next, gained_same, taking_more, taking_falls, taking_ends, taking_refused}
@@ -11,10 +11,10 @@ returns-in_err-end-clause-fault g c =
     let rules = g.T.ClauseStore.rules c.args.store.now in
     let start = g.T.ClauseStore.clauses c.args.store.now in
     let state = g.T.ClauseStore.clauses c.loop-end.store in
-    let P : HarvestFault → Type 0 = λ e. Explains rules e (RefusesText rules start c.args.bytes.now) in
+    let P : HarvestFault → Type 0 = λ e. NamesWhy rules e (RefusesText rules start c.args.bytes.now) in
     err_again c.from_residual.result c.in_err-end.field-0.0 P c.from_residual.ensures.1
     (taking_refused rules start c.args.bytes.now c.loop-end.at c.loop-end.loaded state c.in_err-end.field-0.0
-    (subst (λ n. Explains n c.in_err-end.field-0.0 (RefusesNext n c.args.bytes.now c.loop-end.at state)) c.loop-end.invariant.1 c.in_err-end.ensures.fault)
+    (subst (λ n. NamesWhy n c.in_err-end.field-0.0 (RefusesNext n c.args.bytes.now c.loop-end.at state)) c.loop-end.invariant.1 c.in_err-end.ensures.fault)
     c.loop-end.invariant.0)
 
 pub loop-end-smaller : goal.loop-end-smaller

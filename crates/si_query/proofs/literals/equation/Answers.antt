@@ -30,7 +30,7 @@ close-requires-clause-short g c =
       arith,
       h.spends.cells,
       k.spends.cells,
-      left_shorter c.in-Some.after.now c.in-Some-sign.next.now c.in-Some-sign.ensures,
+      left_shorter c.in-Some.after.now c.in-Some-equation_sign.next.now c.in-Some-equation_sign.ensures,
       ap length c.in_ok-gap.ensures.cells,
       length-append c.args.writer.now.cells (Query 0 ∷ []),
       c.requires.cells,
@@ -45,7 +45,7 @@ returns g c =
     let p = c.is_positive.result in
     record {
       atom = equation h.term k.term;
-      read = statement_sides h.read c.in-Some-sign.ensures k.read;
+      read = statement_sides h.read c.in-Some-equation_sign.ensures k.read;
       flat =
           subst (λ positive. Flattens pairs (entry_scheme owner.Query positive) c.args.writer.now c.close.new.self (term_piece (equation h.term k.term))) c.is_positive.ensures
           (closed_predicate pairs _ c.args.writer.now c.open.new.self c.term-2.new.writer c.close.new.self c.in_ok-gap.ensures (terms.row (h.term ∷ k.term ∷ [])) _ equality p

@@ -9,7 +9,7 @@ use Rattle.si_reply.specs.PrintedParts.{arguments_text}
 use Rattle.si_reply.specs.NamedLists.{ShowAll}
 use Rattle.si_reply.proofs.Pieces.{app_text}
 use Rattle.si_reply.proofs.Writing.{wrote_none, wrote_piece, wrote_part, wrote_all, puts_rest}
-use Rattle.si_reply.proofs.Naming.{some_cells, app_front, query_front, entry_front, no_indicator, begins, none_left, halves, arguments_apart, more_apart}
+use Rattle.si_reply.proofs.NamingLaws.{some_cells, app_front, query_front, entry_front, no_indicator, begins, none_left, halves, arguments_apart, more_apart}
 use Rattle.si_reply.proofs.solution.+put_terms.Goals as goal
 
 -- ---- a term
@@ -49,7 +49,7 @@ put_flat-put_flat_arguments-requires g t c κs within =
     let f = app_front _ _ c.requires.known.0 (cell.App 0 0 0) c.in-App.sym c.in-App.arity c.in-App.len c.requires.known.1 c.in-App.is in
     let same = take_all (length c.args.cells.now - 1) (drop 1 c.args.cells.now) (omega (arith, length-drop 1 c.args.cells.now)) in (
       omega (arith, some, ap length same, length-drop 1 c.args.cells.now),
-      (within.0, (within.1.0, (within.1.1, (f.arguments, subst (λ l. ShowAll c.args.words.now l f.arguments) (sym same) f.rest)))),
+      (within.0, (within.1.0, (within.1.1, (f.arguments, subst (λ l. ShowAll c.args.naming.now l f.arguments) (sym same) f.rest)))),
     )
 
 pub put_flat-put_variable-requires : goal.put_flat-put_variable-requires
@@ -80,7 +80,7 @@ put_flat-returns-in_ok-put_symbol-in-App g t c = λ u h.
     let first = wrote_piece old old mid whole whole head rest split (wrote_none old whole) c.in_ok-put_symbol-in-App.ensures.all in
     let same = take_all (length c.args.cells.now - 1) (drop 1 c.args.cells.now) (omega (arith, length-drop 1 c.args.cells.now)) in
     puts_rest c.put_flat_arguments.result old mid last whole rest first
-    (c.put_flat_arguments.ensures f.arguments (subst (λ l. ShowAll c.args.words.now l f.arguments) (sym same) f.rest))
+    (c.put_flat_arguments.ensures f.arguments (subst (λ l. ShowAll c.args.naming.now l f.arguments) (sym same) f.rest))
 
 -- ---- arguments
 pub put_flat_arguments-split_at-requires : goal.put_flat_arguments-split_at-requires

@@ -3,7 +3,7 @@ use Rattle.si_defs.specs.Terms as terms
 use Rattle.si_defs.specs.Symbols as symbols
 use Rattle.si_defs.specs.Variables as variables
 use Rattle.si_reply.specs.NamedLists.{ShowAll}
-use Rattle.si_reply.proofs.Naming.{LeftToPut}
+use Rattle.si_reply.proofs.NamingLaws.{LeftToPut}
 use Rattle.si_reply.proofs.solution.+put_terms.Given as goal
 
 abbrev pub decreases-put_flat : goal.decreases-put_flat
@@ -17,8 +17,8 @@ decreases-put_flat_others g l = 3 * length l.cells.now + 1
 
 abbrev pub invariant-put_flat_others-loop-rest : goal.invariant-put_flat_others-loop-rest
 invariant-put_flat_others-loop-rest g l = record {
-  left : (ts : terms.Terms symbols.Symbol variables.Variable) → ShowAll l.words l.cells ts
-      → LeftToPut l.words l.rest (g.K.Sink.shown l.fn.sink) (g.K.Sink.shown l.sink) ts;
+  left : (ts : terms.Terms symbols.Symbol variables.Variable) → ShowAll l.naming l.cells ts
+      → LeftToPut l.naming l.rest (g.K.Sink.shown l.fn.sink) (g.K.Sink.shown l.sink) ts;
   shorter : length l.rest ≤ length l.cells;
 }
 

@@ -5,7 +5,7 @@ use Rattle.si_defs.specs.Variables.{variable_text}
 use Rattle.si_term.proofs.Results.{on_err}
 use Rattle.si_reply.specs.PrintedParts.{binding_text}
 use Rattle.si_reply.proofs.Writing.{wrote_none, wrote_piece, wrote_part, puts_rest}
-use Rattle.si_reply.proofs.Naming.{binding_parts, shows_value}
+use Rattle.si_reply.proofs.NamingLaws.{binding_parts, shows_value}
 use Rattle.si_reply.proofs.solution.put_binding.Goals as goal
 
 pub returns-in_err-put_variable : goal.returns-in_err-put_variable

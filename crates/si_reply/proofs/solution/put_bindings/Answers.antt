@@ -3,7 +3,7 @@ use Rattle.std.specs.Prelude.{codes}
 use Rattle.si_term.proofs.Results.{on_err}
 use Rattle.si_reply.specs.PrintedParts.{binding_text, more_bindings_text, bindings_text}
 use Rattle.si_reply.proofs.Writing.{wrote_none, wrote_piece, wrote_part, wrote_all}
-use Rattle.si_reply.proofs.Naming.{shows_none, pair_at, pair_there, all_dropped, bindings_begin, more_bindings_begin, no_bindings, no_more_bindings}
+use Rattle.si_reply.proofs.NamingLaws.{shows_none, pair_at, pair_there, all_dropped, bindings_begin, more_bindings_begin, no_bindings, no_more_bindings}
 use Rattle.si_reply.proofs.solution.put_bindings.Goals as goal
 
 pub returns-then-len-eq0 : goal.returns-then-len-eq0

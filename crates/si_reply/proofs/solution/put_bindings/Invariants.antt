@@ -7,6 +7,6 @@ use Rattle.si_reply.proofs.solution.put_bindings.Given as goal
 
 abbrev pub invariant-loop-n : goal.invariant-loop-n
 invariant-loop-n g l = record {
-  wrote : (list : variables.Solution) → ShowsList l.words l.solution list
+  wrote : (list : variables.Solution) → ShowsList l.naming l.solution list
       → Wrote (g.K.Sink.shown l.fn.sink) (g.K.Sink.shown l.sink) (bindings_text list) (more_bindings_text (drop l.n list));
 }

@@ -5,7 +5,7 @@ use Rattle.si_defs.specs.Variables.{variable_text}
 use Rattle.si_term.proofs.Results.{on_err}
 use Rattle.si_reply.specs.PrintedParts.{bindings_text}
 use Rattle.si_reply.proofs.Writing.{wrote_none, wrote_piece, wrote_part, puts_rest}
-use Rattle.si_reply.proofs.Naming.{solution_parts}
+use Rattle.si_reply.proofs.NamingLaws.{solution_parts}
 use Rattle.si_reply.proofs.solution.put_solution.Goals as goal
 
 pub returns-in_err-put_bindings : goal.returns-in_err-put_bindings

@@ -1,7 +1,7 @@
 use Rattle.std.proofs.Common.{ap, sym, subst}
 use Rattle.si_io.specs.Sends.{Sends}
 use Rattle.si_session.specs.Replies.{closed_line}
-use Rattle.si_session.proofs.ReplyTexts.{ok_text, stats_line_is, sample_told, explained_told, misused_is, full_text, file_told, line_told}
+use Rattle.si_session.proofs.ReplyTexts.{ok_text, stats_line_is, sample_reported, explained_reported, misused_is, full_text, file_reported, line_reported}
 use Rattle.si_session.proofs.reply.put_reply.Goals as goal
 
 pub returns-in-Ok : goal.returns-in-Ok
@@ -17,12 +17,12 @@ returns-in-Taken g c =
 pub returns-in-File : goal.returns-in-File
 returns-in-File g c =
     subst (λ t. Sends c.put_filed.result t (g.K.Sink.shown c.args.sink.now) (g.K.Sink.shown c.put_filed.new.sink))
-    (file_told c.args.reply c.in-File.fault c.in-File.file _ _ c.in-File.is c.file_word.ensures c.as_bytes.ensures) c.put_filed.ensures
+    (file_reported c.args.reply c.in-File.fault c.in-File.file _ _ c.in-File.is c.file_word.ensures c.as_bytes.ensures) c.put_filed.ensures
 
 pub returns-in-Line : goal.returns-in-Line
 returns-in-Line g c =
     subst (λ t. Sends c.put_lined.result t (g.K.Sink.shown c.args.sink.now) (g.K.Sink.shown c.put_lined.new.sink))
-    (line_told c.args.reply c.in-Line.fault c.in-Line.file c.in-Line.line _ _ c.in-Line.is c.line_word.ensures c.as_bytes-in-Line.ensures) c.put_lined.ensures
+    (line_reported c.args.reply c.in-Line.fault c.in-Line.file c.in-Line.line _ _ c.in-Line.is c.line_word.ensures c.as_bytes-in-Line.ensures) c.put_lined.ensures
 
 pub returns-in-Fetches : goal.returns-in-Fetches
 unfolding closed_line
@@ -75,9 +75,9 @@ returns-in-Unknown g c =
 pub returns-in-Sample : goal.returns-in-Sample
 returns-in-Sample g c =
     subst (λ t. Sends c.put_three.result t (g.K.Sink.shown c.args.sink.now) (g.K.Sink.shown c.put_three.new.sink))
-    (sample_told c.args.reply c.in-Sample.clauses c.in-Sample.entries c.in-Sample.sum c.in-Sample.is) c.put_three.ensures
+    (sample_reported c.args.reply c.in-Sample.clauses c.in-Sample.entries c.in-Sample.sum c.in-Sample.is) c.put_three.ensures
 
 pub returns-in-Explained : goal.returns-in-Explained
 returns-in-Explained g c =
     subst (λ t. Sends c.put_three-in-Explained.result t (g.K.Sink.shown c.args.sink.now) (g.K.Sink.shown c.put_three-in-Explained.new.sink))
-    (explained_told c.args.reply c.in-Explained.explained c.in-Explained.is) c.put_three-in-Explained.ensures
+    (explained_reported c.args.reply c.in-Explained.explained c.in-Explained.is) c.put_three-in-Explained.ensures

@@ -1,16 +1,16 @@
-use Rattle.si_session.proofs.Loading.{tellable}
-use Rattle.si_session.proofs.Sums.{sample_told, sample_refused}
+use Rattle.si_session.proofs.Loading.{reportable}
+use Rattle.si_session.proofs.Sums.{sample_reported, sample_refused}
 use Rattle.si_session.proofs.sample.sample.Goals as goal
 
 pub load_refusal-requires : goal.load_refusal-requires
-load_refusal-requires g c = tellable _ c.in-Err.fault _ c.in-Err.ensures.fault
+load_refusal-requires g c = reportable _ c.in-Err.fault _ c.in-Err.ensures.fault
 
 pub returns-in-Ok-clause-acts : goal.returns-in-Ok-clause-acts
 returns-in-Ok-clause-acts g c =
-    sample_told c.args.start c.args.count c.args.index.now c.tell_sum.new.index c.tell_sum.result (g.K.Sink.shown c.args.sink.now) (g.K.Sink.shown c.tell_sum.new.sink)
-    c.take_sample.new.index.clauses c.in-Ok.gained c.in-Ok.ensures.gained c.tell_sum.ensures.told
+    sample_reported c.args.start c.args.count c.args.index.now c.report_sum.new.index c.report_sum.result (g.K.Sink.shown c.args.sink.now) (g.K.Sink.shown c.report_sum.new.sink)
+    c.take_sample.new.index.clauses c.in-Ok.gained c.in-Ok.ensures.gained c.report_sum.ensures.reports
 
 pub returns-in-Err-clause-acts : goal.returns-in-Err-clause-acts
 returns-in-Err-clause-acts g c =
-    sample_refused c.args.start c.args.count c.args.index.now c.take_sample.new.index c.tell.result (g.K.Sink.shown c.args.sink.now) (g.K.Sink.shown c.tell.new.sink)
-    c.in-Err.fault c.load_refusal.result c.in-Err.ensures.fault c.load_refusal.ensures c.in-Err.ensures.err c.tell.ensures.written
+    sample_refused c.args.start c.args.count c.args.index.now c.take_sample.new.index c.report.result (g.K.Sink.shown c.args.sink.now) (g.K.Sink.shown c.report.new.sink)
+    c.in-Err.fault c.load_refusal.result c.in-Err.ensures.fault c.load_refusal.ensures c.in-Err.ensures.err c.report.ensures.written

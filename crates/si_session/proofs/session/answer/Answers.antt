@@ -13,37 +13,37 @@ use Rattle.si_session.proofs.session.answer.Goals as goal
 pub find-requires-clause-standing : goal.find-requires-clause-standing
 find-requires-clause-standing g c = trees_stand c.args.index.now c.trees.result.now c.args.relation (pattern_of c.args.pattern.now) c.trees.ensures.answer c.trees.ensures.trees c.requires
 
-pub tell_answer-requires-clause-inside : goal.tell_answer-requires-clause-inside
-tell_answer-requires-clause-inside g c =
+pub report_answer-requires-clause-inside : goal.report_answer-requires-clause-inside
+report_answer-requires-clause-inside g c =
     let f = c.in-Ok.found in
     subst (λ index. AllByRecursion (IsInside index.clauses) f.hits) (sym c.in-Ok.ensures.index)
     (are_inside c.args.relation (pattern_of c.args.pattern.now) c.args.index.now.clauses f.hits
     (trees_find c.args.index.now c.trees.result.now c.args.relation (pattern_of c.args.pattern.now) c.trees.ensures.answer c.trees.ensures.trees c.requires c.in-Ok.found.hits c.in-Ok.found.passed c.in-Ok.ensures.hits))
 
-pub tell_answer-requires-clause-solved : goal.tell_answer-requires-clause-solved
-tell_answer-requires-clause-solved g c =
+pub report_answer-requires-clause-solved : goal.report_answer-requires-clause-solved
+report_answer-requires-clause-solved g c =
     let f = c.in-Ok.found in
     subst (λ kind. AllByRecursion (λ (hit : ℕ × Placed). HasSolution kind f.pattern hit.1.entry) f.hits) (sym c.in-Ok.ensures.relation)
     (subst (λ p. AllByRecursion (λ (hit : ℕ × Placed). HasSolution c.args.relation p hit.1.entry) f.hits) (sym c.in-Ok.ensures.pattern) c.in-Ok.ensures.solved)
 
-pub returns-in-Ok-tell_answer-clause-acts : goal.returns-in-Ok-tell_answer-clause-acts
-returns-in-Ok-tell_answer-clause-acts g c =
+pub returns-in-Ok-report_answer-clause-acts : goal.returns-in-Ok-report_answer-clause-acts
+returns-in-Ok-report_answer-clause-acts g c =
     let f = c.in-Ok.found in
-    let told = c.in-Ok-tell_answer.ensures in
+    let reported = c.in-Ok-report_answer.ensures in
     let answer = whole_answer f c.args.index.now c.args.relation (pattern_of c.args.pattern.now) c.in-Ok.ensures.index c.in-Ok.ensures.relation c.in-Ok.ensures.pattern
-    (trees_find c.args.index.now c.trees.result.now c.args.relation (pattern_of c.args.pattern.now) c.trees.ensures.answer c.trees.ensures.trees c.requires c.in-Ok.found.hits c.in-Ok.found.passed c.in-Ok.ensures.hits) told.0 told.1 in
-    answers c.args.relation (pattern_of c.args.pattern.now) c.args.index.now told.0 answer (g.K.Sink.shown c.args.sink.now) (g.K.Sink.shown c.tell_answer.new.sink) told.2.all
+    (trees_find c.args.index.now c.trees.result.now c.args.relation (pattern_of c.args.pattern.now) c.trees.ensures.answer c.trees.ensures.trees c.requires c.in-Ok.found.hits c.in-Ok.found.passed c.in-Ok.ensures.hits) reported.0 reported.1 in
+    answers c.args.relation (pattern_of c.args.pattern.now) c.args.index.now reported.0 answer (g.K.Sink.shown c.args.sink.now) (g.K.Sink.shown c.report_answer.new.sink) reported.2.all
 
 pub returns-clause-acts : goal.returns-clause-acts
 returns-clause-acts g c =
     let f = c.in-Ok.found in
-    let told = c.in-Err-tell_answer.ensures in
+    let reported = c.in-Err-report_answer.ensures in
     let answer = whole_answer f c.args.index.now c.args.relation (pattern_of c.args.pattern.now) c.in-Ok.ensures.index c.in-Ok.ensures.relation c.in-Ok.ensures.pattern
-    (trees_find c.args.index.now c.trees.result.now c.args.relation (pattern_of c.args.pattern.now) c.trees.ensures.answer c.trees.ensures.trees c.requires c.in-Ok.found.hits c.in-Ok.found.passed c.in-Ok.ensures.hits) told.0 told.1 in
-    fails c.args.relation (pattern_of c.args.pattern.now) c.args.index.now told.0 answer (g.K.Sink.shown c.args.sink.now) (g.K.Sink.shown c.tell_answer.new.sink) told.2.part
+    (trees_find c.args.index.now c.trees.result.now c.args.relation (pattern_of c.args.pattern.now) c.trees.ensures.answer c.trees.ensures.trees c.requires c.in-Ok.found.hits c.in-Ok.found.passed c.in-Ok.ensures.hits) reported.0 reported.1 in
+    fails c.args.relation (pattern_of c.args.pattern.now) c.args.index.now reported.0 answer (g.K.Sink.shown c.args.sink.now) (g.K.Sink.shown c.report_answer.new.sink) reported.2.part
 
-pub returns-in-Ok-tell_answer-clause-faults : goal.returns-in-Ok-tell_answer-clause-faults
-returns-in-Ok-tell_answer-clause-faults g c = faults_stand Answered _ _ (λ e. cc) c.in-Ok-tell_answer.ensures.2.all.faults
+pub returns-in-Ok-report_answer-clause-faults : goal.returns-in-Ok-report_answer-clause-faults
+returns-in-Ok-report_answer-clause-faults g c = faults_stand Answered _ _ (λ e. cc) c.in-Ok-report_answer.ensures.2.all.faults
 
 pub returns-clause-faults : goal.returns-clause-faults
-returns-clause-faults g c = faults_rise _ _ c.in-Err-tell_answer.ensures.2.part.faults
+returns-clause-faults g c = faults_rise _ _ c.in-Err-report_answer.ensures.2.part.faults

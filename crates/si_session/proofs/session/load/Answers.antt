@@ -1,30 +1,24 @@
-use Rattle.si_session.proofs.Loading.{tellable, load_refused, load_gained}
+use Rattle.si_session.proofs.Loading.{reportable, load_refused, load_gained}
 use Rattle.si_session.proofs.session.load.Goals as goal
 
 pub load_refusal-requires : goal.load_refusal-requires
-load_refusal-requires g c = tellable _ c.in-Err.fault _ c.in-Err.ensures.reads.fault
+load_refusal-requires g c = reportable _ c.in-Err.fault _ c.in-Err.ensures.reads.fault
 
 pub returns-in-Ok-clause-loads : goal.returns-in-Ok-clause-loads
 returns-in-Ok-clause-loads g c =
     let limits = c.args.limits.now in
     let old = c.args.index.now in
     let new = c.expand.new.store in
-    load_gained limits c.args.name.now old new c.tell.result (g.K.Sink.shown c.args.sink.now) (g.K.Sink.shown c.tell.new.sink)
+    load_gained limits c.args.name.now old new c.report.result (g.K.Sink.shown c.args.sink.now) (g.K.Sink.shown c.report.new.sink)
     (g.L.Library.shown c.args.library.now) (g.L.Library.shown c.expand.new.library) c.in-Ok.gained
     c.from.result c.from-in-Ok.result c.from.ensures c.from-in-Ok.ensures
-    c.in-Ok.ensures.loaded c.in-Ok.ensures.reads c.in-Ok.ensures.cause c.tell.ensures.written
+    c.in-Ok.ensures.loaded c.in-Ok.ensures.reads c.in-Ok.ensures.cause c.report.ensures.written
 
 pub returns-in-Err-clause-loads : goal.returns-in-Err-clause-loads
 returns-in-Err-clause-loads g c =
     let limits = c.args.limits.now in
     let old = c.args.index.now in
     let new = c.expand.new.store in
-    load_refused limits c.args.name.now old new c.tell-in-Err.result (g.K.Sink.shown c.args.sink.now) ((g.K.Sink.shown c.tell-in-Err.new.sink))
+    load_refused limits c.args.name.now old new c.report-in-Err.result (g.K.Sink.shown c.args.sink.now) ((g.K.Sink.shown c.report-in-Err.new.sink))
     (g.L.Library.shown c.args.library.now) (g.L.Library.shown c.expand.new.library) c.in-Err.fault c.load_refusal.result
-    c.in-Err.ensures.reads c.load_refusal.ensures c.in-Err.ensures.cause c.in-Err.ensures.err c.tell-in-Err.ensures.written
-
-pub returns-in-Ok-clause-library : goal.returns-in-Ok-clause-library
-returns-in-Ok-clause-library g c = record { told = c.in-Ok.ensures.told; same = c.in-Ok.ensures.same }
-
-pub returns-in-Err-clause-library : goal.returns-in-Err-clause-library
-returns-in-Err-clause-library g c = record { told = c.in-Err.ensures.told; same = c.in-Err.ensures.same }
+    c.in-Err.ensures.reads c.load_refusal.ensures c.in-Err.ensures.cause c.in-Err.ensures.err c.report-in-Err.ensures.written

@@ -5,10 +5,10 @@ use Rattle.si_session.specs.Session.{holding}
 use Rattle.si_session.proofs.MappedLaws.{are_kept, mapped}
 use Rattle.si_session.proofs.subsumption.subsumers.Goals as goal
 
-pub tell_mapped-requires : goal.tell_mapped-requires
-tell_mapped-requires g c = are_kept (λ ls. IsMap ls (map literal_of c.args.formula.now)) c.args.index.now.clauses c.in-Ok.found c.in-Ok.ensures
+pub report_mapped-requires : goal.report_mapped-requires
+report_mapped-requires g c = are_kept (λ ls. IsMap ls (map literal_of c.args.formula.now)) c.args.index.now.clauses c.in-Ok.found c.in-Ok.ensures
 
 pub returns-in-Ok-clause-acts : goal.returns-in-Ok-clause-acts
 returns-in-Ok-clause-acts g c setting state =
-    mapped (λ ls. IsMap ls (map literal_of c.args.formula.now)) c.args.index.now.clauses c.in-Ok.found c.in-Ok.ensures c.tell_mapped.result
-    (g.K.Sink.shown c.args.sink.now) (g.K.Sink.shown c.tell_mapped.new.sink) c.tell_mapped.ensures.written (holding state c.args.index.now)
+    mapped (λ ls. IsMap ls (map literal_of c.args.formula.now)) c.args.index.now.clauses c.in-Ok.found c.in-Ok.ensures c.report_mapped.result
+    (g.K.Sink.shown c.args.sink.now) (g.K.Sink.shown c.report_mapped.new.sink) c.report_mapped.ensures.written (holding state c.args.index.now)

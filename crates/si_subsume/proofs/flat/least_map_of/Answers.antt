@@ -4,7 +4,8 @@ use Rattle.std.specs.Borrow.{Bor}
 use Rattle.si_flat.specs.declared.Cell.{Cell}
 use Rattle.si_flat.specs.declared.Owner.TheVariants.{Entry}
 use Rattle.std.proofs.lemmas.Result.{IfOk-weaker}
-use Rattle.si_subsume.specs.Maps.{arguments, AreOf, StandForAll, AnswersFlat}
+use Rattle.si_defs.specs.Terms.{arguments}
+use Rattle.si_subsume.specs.Maps.{AreOf, StandForAll, AnswersFlat}
 use Rattle.si_subsume.specs.Parts.{AreFixed}
 use Rattle.si_subsume.specs.Search.{AreFlatLiterals, AnswersSlices}
 use Rattle.si_subsume.proofs.Arguments.{arguments_are_terms}

@@ -11,7 +11,7 @@ undo-requires c = (dead_last c.args.task.now.slots c.args.task.now.targets.now c
 
 pub returns-in-Some-clause-advances : goal.returns-in-Some-clause-advances
 returns-in-Some-clause-advances c from =
-    retreated c.args.task.now.slots c.args.task.now.targets.now c.args.task.now.literals.now c.args.trail.now.pairs c.args.choices.now.items c.pop.new.self.items c.in-Some.choice c.mark.result c.next_number-next.result c.undo.new.self.pairs from c.requires.dead c.in-Some.ensures.items c.requires.more c.mark.ensures.number c.next_number-next.ensures c.undo.ensures.pairs
+    retreated c.args.task.now.slots c.args.task.now.targets.now c.args.task.now.literals.now c.args.trail.now.pairs c.args.choices.now.items c.pop.new.self.items c.in-Some.choice c.mark.result c.next_number-next.result c.undo.new.self.pairs from c.requires.dead c.in-Some.ensures.items c.mark.ensures.number c.next_number-next.ensures c.undo.ensures.pairs
 
 pub returns-in-Some-clause-ready : goal.returns-in-Some-clause-ready
 returns-in-Some-clause-ready c =

@@ -1,5 +1,5 @@
 use Rattle.std.proofs.Common.{length}
-use Rattle.si_subsume.specs.Search.{turns_left}
+use Rattle.si_subsume.proofs.Turns.{turns_left}
 use Rattle.si_subsume.proofs.Choices.{IsChoosing}
 use Rattle.si_subsume.proofs.search.search.Given as goal
 

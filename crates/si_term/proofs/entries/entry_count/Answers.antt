@@ -3,7 +3,8 @@ use Rattle.std.proofs.lemmas.List.{length-map}
 use Rattle.si_defs.specs.Entries.{term_entry}
 use Rattle.si_term.specs.Terms.{term_of}
 use Rattle.si_term.specs.Meaning.{literal_of}
-use Rattle.si_term.specs.Walks.{subterms_of_all, arguments, entries_alone}
+use Rattle.si_defs.specs.Terms.{arguments}
+use Rattle.si_term.specs.Walks.{subterms_of_all, entries_alone}
 use Rattle.si_term.specs.declared.clause.Literal.{Literal}
 use Rattle.si_term.proofs.Alone.{length-entries}
 use Rattle.si_term.proofs.Literals.{later, later-read, later-end}

@@ -4,7 +4,8 @@ use Rattle.si_defs.specs.Clauses.{literals_size}
 use Rattle.si_defs.specs.Entries.{Place}
 use Rattle.si_term.specs.Terms.{term_of}
 use Rattle.si_term.specs.Meaning.{literal_of}
-use Rattle.si_term.specs.Walks.{paths_from, arguments, FindsPath}
+use Rattle.si_defs.specs.Terms.{arguments}
+use Rattle.si_term.specs.Walks.{paths_from, FindsPath}
 use Rattle.si_term.specs.declared.entries.PathWalk.{PathWalk}
 use Rattle.si_term.proofs.Alone.{placed_back, places_alone, entries-places, length-places}
 use Rattle.si_term.proofs.Literals.{later, later-read, later-end, literal_size-read, length-literals_size}

@@ -1,18 +1,14 @@
-use Rattle.std.proofs.Common.{◌≡◌, IfOk, List, [], ap, refl, subst, ◌∙◌}
+use Rattle.std.proofs.Common.{◌≡◌, IfOk, List, [], ap, subst, ◌∙◌}
 use Rattle.std.specs.Prelude.{bytes_eq}
 use Rattle.std.proofs.lemmas.Slice.Eq.{bytes_eq-Decides}
 use Rattle.indexmap.specs.IndexSet.{insert_all}
 use Rattle.si_defs.specs.Bytes.{Bytes}
 use Rattle.si_defs.specs.Terms.{firsts, variables}
-use Rattle.si_defs.specs.Entries.{Entry, literal_entry, term_entry, entry_variables, distinct_variables}
+use Rattle.si_defs.specs.Entries.{distinct_variables}
 use Rattle.si_term.specs.Terms.{term_of}
-use Rattle.si_term.specs.Meaning.{entry_of, whole_of}
+use Rattle.si_term.specs.Meaning.{entry_of}
 use Rattle.si_term.proofs.Inserted.{inserted-firsts, shown}
 use Rattle.si_term.proofs.entries.vars_of.Goals as goal
-
-whole_variables : (e : Entry) → variables (whole_of e) ≡ entry_variables e
-whole_variables (literal_entry l) = refl
-whole_variables (term_entry t) = refl
 
 pub returns : goal.returns
 returns c =
@@ -23,6 +19,6 @@ returns c =
     ∙ c.in_ok-gather_term.ensures
     ∙ ap (λ known. insert_all bytes_eq known found) from_none
     ∙ inserted-firsts bytes_eq bytes_eq-Decides found
-    ∙ ap (firsts bytes_eq) (ap variables c.whole.ensures ∙ whole_variables (entry_of c.args.entry)) in
+    ∙ ap (firsts bytes_eq) (ap variables c.whole.ensures) in
     let P : List Bytes → Type 0 = λ l. IfOk c.copy_texts.result (λ names. names ≡ l) in
     subst P all c.copy_texts.ensures

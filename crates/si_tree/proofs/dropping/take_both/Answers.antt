@@ -11,22 +11,22 @@ pub index_mut-below-requires : goal.index_mut-below-requires
 index_mut-below-requires c =
     let s0 = c.args.nodes.now in
     let may = c.requires in
-    let parent = parent_is s0 c.args.leaf may c.index.result.now c.leaf.inside.key c.in-Some.parent c.leaf.view_is c.index.ensures c.in-Some.is in
-    let other = c.child_besides-other.ensures may.other (besides_at s0 c.args.leaf may c.index-3.result.now c.parent.inside.key (c.parent.view_is ∙ parent) c.index-3.ensures) in
+    let parent = parent_is s0 c.args.leaf may c.index.result.now c.leaf.inside.key c.in-Some.parent c.leaf.view_is c.index.ensures (sym c.parent.ensures ∙ c.in-Some.is) in
+    let other = c.child_besides-other.ensures may.other (besides_at s0 c.args.leaf may c.index-3.result.now c.parent-2.inside.key (c.parent-2.view_is ∙ parent) c.index-3.ensures) in
     let one = subst (λ k. Updates s0 c.vacate.new.nodes k None) c.leaf-2.view_is c.vacate.ensures in
-    let two = subst (λ k. Updates c.vacate.new.nodes c.vacate-2.new.nodes k None) (c.parent-2.view_is ∙ parent) c.vacate-2.ensures in
+    let two = subst (λ k. Updates c.vacate.new.nodes c.vacate-2.new.nodes k None) (c.parent-4.view_is ∙ parent) c.vacate-2.ensures in
     subst (ContainsKey c.vacate-2.new.nodes) (sym (c.other.view_is ∙ other)) (ap is_some (other_then s0 c.args.leaf may _ _ one two))
 
 pub index_mut-above-requires : goal.index_mut-above-requires
 index_mut-above-requires c =
     let s0 = c.args.nodes.now in
     let may = c.requires in
-    let parent = parent_is s0 c.args.leaf may c.index.result.now c.leaf.inside.key c.in-Some.parent c.leaf.view_is c.index.ensures c.in-Some.is in
-    let upper = upper_is s0 c.args.leaf may c.index-2.result.now c.parent.inside.key c.in-Some-parent.upper (c.parent.view_is ∙ parent) c.index-2.ensures c.in-Some-parent.is in
-    let other = c.child_besides-other.ensures may.other (besides_at s0 c.args.leaf may c.index-3.result.now c.parent.inside.key (c.parent.view_is ∙ parent) c.index-3.ensures) in
+    let parent = parent_is s0 c.args.leaf may c.index.result.now c.leaf.inside.key c.in-Some.parent c.leaf.view_is c.index.ensures (sym c.parent.ensures ∙ c.in-Some.is) in
+    let upper = upper_is s0 c.args.leaf may c.index-2.result.now c.parent-2.inside.key c.in-Some-parent.upper (c.parent-2.view_is ∙ parent) c.index-2.ensures (sym c.parent-3.ensures ∙ c.in-Some-parent.is) in
+    let other = c.child_besides-other.ensures may.other (besides_at s0 c.args.leaf may c.index-3.result.now c.parent-2.inside.key (c.parent-2.view_is ∙ parent) c.index-3.ensures) in
     let one = subst (λ k. Updates s0 c.vacate.new.nodes k None) c.leaf-2.view_is c.vacate.ensures in
     let s2 = c.vacate-2.new.nodes in
-    let two = subst (λ k. Updates c.vacate.new.nodes s2 k None) (c.parent-2.view_is ∙ parent) c.vacate-2.ensures in
+    let two = subst (λ k. Updates c.vacate.new.nodes s2 k None) (c.parent-4.view_is ∙ parent) c.vacate-2.ensures in
     let at = c.other.inside.key in
     let s3 = with_value s2 at c.move_below.new.self in
     let three = subst (λ k. Updates s2 s3 k (Some c.move_below.new.self)) (c.other.view_is ∙ other) (Updates-with_value s2 at c.move_below.new.self (ap is_some c.index_mut-below.ensures.value)) in
@@ -36,12 +36,12 @@ pub relink-requires : goal.relink-requires
 relink-requires c =
     let s0 = c.args.nodes.now in
     let may = c.requires in
-    let parent = parent_is s0 c.args.leaf may c.index.result.now c.leaf.inside.key c.in-Some.parent c.leaf.view_is c.index.ensures c.in-Some.is in
-    let upper = upper_is s0 c.args.leaf may c.index-2.result.now c.parent.inside.key c.in-Some-parent.upper (c.parent.view_is ∙ parent) c.index-2.ensures c.in-Some-parent.is in
-    let other = c.child_besides-other.ensures may.other (besides_at s0 c.args.leaf may c.index-3.result.now c.parent.inside.key (c.parent.view_is ∙ parent) c.index-3.ensures) in
+    let parent = parent_is s0 c.args.leaf may c.index.result.now c.leaf.inside.key c.in-Some.parent c.leaf.view_is c.index.ensures (sym c.parent.ensures ∙ c.in-Some.is) in
+    let upper = upper_is s0 c.args.leaf may c.index-2.result.now c.parent-2.inside.key c.in-Some-parent.upper (c.parent-2.view_is ∙ parent) c.index-2.ensures (sym c.parent-3.ensures ∙ c.in-Some-parent.is) in
+    let other = c.child_besides-other.ensures may.other (besides_at s0 c.args.leaf may c.index-3.result.now c.parent-2.inside.key (c.parent-2.view_is ∙ parent) c.index-3.ensures) in
     let one = subst (λ k. Updates s0 c.vacate.new.nodes k None) c.leaf-2.view_is c.vacate.ensures in
     let s2 = c.vacate-2.new.nodes in
-    let two = subst (λ k. Updates c.vacate.new.nodes s2 k None) (c.parent-2.view_is ∙ parent) c.vacate-2.ensures in
+    let two = subst (λ k. Updates c.vacate.new.nodes s2 k None) (c.parent-4.view_is ∙ parent) c.vacate-2.ensures in
     let at = c.other.inside.key in
     let s3 = with_value s2 at c.move_below.new.self in
     let three = subst (λ k. Updates s2 s3 k (Some c.move_below.new.self)) (c.other.view_is ∙ other) (Updates-with_value s2 at c.move_below.new.self (ap is_some c.index_mut-below.ensures.value)) in
@@ -52,12 +52,12 @@ relink-requires c =
 pub returns : goal.returns
 returns c may =
     let s0 = c.args.nodes.now in
-    let parent = parent_is s0 c.args.leaf may c.index.result.now c.leaf.inside.key c.in-Some.parent c.leaf.view_is c.index.ensures c.in-Some.is in
-    let upper = upper_is s0 c.args.leaf may c.index-2.result.now c.parent.inside.key c.in-Some-parent.upper (c.parent.view_is ∙ parent) c.index-2.ensures c.in-Some-parent.is in
-    let other = c.child_besides-other.ensures may.other (besides_at s0 c.args.leaf may c.index-3.result.now c.parent.inside.key (c.parent.view_is ∙ parent) c.index-3.ensures) in
+    let parent = parent_is s0 c.args.leaf may c.index.result.now c.leaf.inside.key c.in-Some.parent c.leaf.view_is c.index.ensures (sym c.parent.ensures ∙ c.in-Some.is) in
+    let upper = upper_is s0 c.args.leaf may c.index-2.result.now c.parent-2.inside.key c.in-Some-parent.upper (c.parent-2.view_is ∙ parent) c.index-2.ensures (sym c.parent-3.ensures ∙ c.in-Some-parent.is) in
+    let other = c.child_besides-other.ensures may.other (besides_at s0 c.args.leaf may c.index-3.result.now c.parent-2.inside.key (c.parent-2.view_is ∙ parent) c.index-3.ensures) in
     let one = subst (λ k. Updates s0 c.vacate.new.nodes k None) c.leaf-2.view_is c.vacate.ensures in
     let s2 = c.vacate-2.new.nodes in
-    let two = subst (λ k. Updates c.vacate.new.nodes s2 k None) (c.parent-2.view_is ∙ parent) c.vacate-2.ensures in
+    let two = subst (λ k. Updates c.vacate.new.nodes s2 k None) (c.parent-4.view_is ∙ parent) c.vacate-2.ensures in
     let at = c.other.inside.key in
     let moved = c.move_below.new.self in
     let s3 = with_value s2 at moved in

@@ -1,4 +1,5 @@
 use Rattle.si_tree_examples.proofs.FiveNodesProved.{five_nodes_legal, stored_postings}
+use Rattle.si_tree_examples.proofs.VariableLeavesProved.{variable_leaves_legal}
 use Rattle.si_tree_examples.proofs.ChangesProved.{shared_leaf, no_turned_postings}
 use Rattle.si_tree_examples.proofs.RemovalsProved.{unmerged_leaf, nothing_stored}
 use Rattle.si_tree_examples.proofs.trees.legal_trees.Goals as goal
@@ -8,6 +9,9 @@ returns-clause-five_nodes c = five_nodes_legal
 
 pub returns-clause-stored_postings : goal.returns-clause-stored_postings
 returns-clause-stored_postings c = stored_postings
+
+pub returns-clause-variable_leaves : goal.returns-clause-variable_leaves
+returns-clause-variable_leaves c = variable_leaves_legal
 
 pub returns-clause-unmerged_leaf : goal.returns-clause-unmerged_leaf
 returns-clause-unmerged_leaf c = unmerged_leaf

@@ -4,7 +4,7 @@ use Rattle.std.proofs.lemmas.Bool.Decides.{nat_tests}
 use Rattle.std.specs.Prelude.{◌==◌}
 use Rattle.std.proofs.lemmas.Result.{on_ok_weaker, IfErr-weaker}
 use Rattle.stindex.specs.Lines.{held_of}
-use Rattle.si_session.proofs.Owing.{same_files}
+use Rattle.si_io.proofs.Fetching.{same_files}
 use Rattle.stindex.proofs.Progress.{Closes_none, Closes_line, Cuts_line, counts_on}
 use Rattle.stindex.proofs.serve.close.Goals as goal
 

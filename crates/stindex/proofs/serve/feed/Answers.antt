@@ -2,7 +2,7 @@
 -- was begun.
 use Rattle.std.proofs.Common.{◌≡◌, ◌+◌, ◌<◌, ◌∙◌, ◌++◌, length, ap, refl, arith, take_all, length-drop, length-append}
 use Rattle.clap.proofs.TakesLemmas.{passed_up}
-use Rattle.si_session.proofs.Owing.{files_then}
+use Rattle.si_io.proofs.Fetching.{files_then}
 use Rattle.stindex.proofs.Progress.{Feeds_line, Feeds_fail, Feeds_end, counts_on, counts_passed, stop_not_ok}
 use Rattle.stindex.proofs.Splitting.{line_end}
 use Rattle.stindex.proofs.serve.feed.Goals as goal

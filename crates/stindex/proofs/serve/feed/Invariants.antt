@@ -1,6 +1,7 @@
 use Rattle.std.proofs.Common.{◌≡◌, length}
 use Rattle.stindex.specs.Lines.{held_of, limit_of}
-use Rattle.si_session.specs.Session.{KeepsFiles, around}
+use Rattle.si_session.specs.Session.{around}
+use Rattle.si_io.specs.Shown.{KeepsFiles}
 use Rattle.stindex.specs.Progress.{Feeds}
 use Rattle.stindex.proofs.serve.feed.Given as goal
 

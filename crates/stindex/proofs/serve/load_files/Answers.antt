@@ -3,7 +3,7 @@ use Rattle.std.proofs.Common.{◌∙◌, refl, subst}
 use Rattle.clap.specs.Words.{found_of}
 use Rattle.clap.proofs.TakesLemmas.{passed_up}
 use Rattle.si_session.specs.Session.{around}
-use Rattle.si_session.proofs.Owing.{same_files, files_then}
+use Rattle.si_io.proofs.Fetching.{same_files, files_then}
 use Rattle.stindex.specs.Progress.{LoadsWords}
 use Rattle.stindex.proofs.FileWords.{files_are, files_none, words_none, words_all, words_next, words_break}
 use Rattle.stindex.proofs.Progress.{counts_on, counts_passed, stop_not_ok}

@@ -1,5 +1,6 @@
 use Rattle.std.proofs.Common.{◌≡◌, map, take}
-use Rattle.si_session.specs.Session.{KeepsFiles, around}
+use Rattle.si_session.specs.Session.{around}
+use Rattle.si_io.specs.Shown.{KeepsFiles}
 use Rattle.stindex.specs.Progress.{LoadsWords}
 use Rattle.stindex.proofs.serve.load_files.Given as goal
 

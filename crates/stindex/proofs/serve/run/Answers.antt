@@ -5,7 +5,7 @@ use Rattle.std.specs.Prelude.{IsTrue}
 use Rattle.si_io.specs.Counts.{raised}
 use Rattle.si_io.specs.declared.counts.SourceCounts.{SourceCounts}
 use Rattle.si_io.proofs.Gives.{Gives_some, Gives_end, Gives_failed, ends_kept, ends_raised}
-use Rattle.si_session.proofs.Owing.{files_then}
+use Rattle.si_io.proofs.Fetching.{files_then}
 use Rattle.stindex.specs.Status.{status_of}
 use Rattle.stindex.specs.declared.status.Status.TheVariants.{Ended, SessionLimit}
 use Rattle.stindex.proofs.FileWords.{Stands_under}

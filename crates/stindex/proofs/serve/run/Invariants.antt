@@ -1,6 +1,7 @@
 use Rattle.std.proofs.Common.{◌≡◌, ◌≤◌, ◌-◌}
 use Rattle.si_steps.specs.Settings.{setting_of}
-use Rattle.si_session.specs.Session.{KeepsFiles, around}
+use Rattle.si_session.specs.Session.{around}
+use Rattle.si_io.specs.Shown.{KeepsFiles}
 use Rattle.stindex.specs.Lines.{held_of, limit_of}
 use Rattle.stindex.specs.Words.{asked_of}
 use Rattle.stindex.specs.Progress.{HasProgressed}

@@ -19,16 +19,16 @@ pub returns-in-Ok-clause-faultless : goal.returns-in-Ok-clause-faultless
 returns-in-Ok-clause-faultless g c = faultless_where_none_rose c.start.result _ _ _ _ c.start.ensures.causes.counts
 
 pub returns-in-Err-Usage-clause-answers : goal.returns-in-Err-Usage-clause-answers
-returns-in-Err-Usage-clause-answers g c = answers_usage _ _ _ c.tell_usage.result _ _ _ (c.in-Err-Usage.ensures.refused c.in-Err-Usage.field-0-is) refl c.tell_usage.ensures.written
+returns-in-Err-Usage-clause-answers g c = answers_usage _ _ _ c.report_usage.result _ _ _ (c.in-Err-Usage.ensures.refused c.in-Err-Usage.field-0-is) refl c.report_usage.ensures.written
 
 pub returns-in-Err-Usage-clause-plain : goal.returns-in-Err-Usage-clause-plain
 returns-in-Err-Usage-clause-plain g c = λ plain. absurd (true≢false (sym (c.read_words.ensures.plain plain).0 ∙ c.in-Err-Usage.ensures.refused c.in-Err-Usage.field-0-is))
 
 pub returns-in-Err-Usage-clause-sure : goal.returns-in-Err-Usage-clause-sure
-returns-in-Err-Usage-clause-sure g c = λ never room. faultless_by _ _ _ _ _ _ _ room c.tell_usage.result _ (returns-in-Err-Usage-clause-answers g c) (c.tell_usage.ensures.causes (g.S.Source.shown c.args.source.now)).source_sure never
+returns-in-Err-Usage-clause-sure g c = λ never room. faultless_by _ _ _ _ _ _ _ room c.report_usage.result _ (returns-in-Err-Usage-clause-answers g c) (c.report_usage.ensures.causes (g.S.Source.shown c.args.source.now)).source_sure never
 
 pub returns-in-Err-Usage-clause-faultless : goal.returns-in-Err-Usage-clause-faultless
-returns-in-Err-Usage-clause-faultless g c = faultless_where_none_rose c.tell_usage.result _ _ _ _ (c.tell_usage.ensures.causes (g.S.Source.shown c.args.source.now)).counts
+returns-in-Err-Usage-clause-faultless g c = faultless_where_none_rose c.report_usage.result _ _ _ _ (c.report_usage.ensures.causes (g.S.Source.shown c.args.source.now)).counts
 
 pub returns-in-Err-Memory-clause-answers : goal.returns-in-Err-Memory-clause-answers
 returns-in-Err-Memory-clause-answers g c = answers_memory _ _ _ _ _

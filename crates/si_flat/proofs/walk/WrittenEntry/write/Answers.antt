@@ -7,14 +7,15 @@ use Rattle.si_term.specs.Meaning.{entry_of}
 use Rattle.si_term.proofs.Results.{on_err}
 use Rattle.si_flat.specs.Rooms.{IsNoLess}
 use Rattle.si_flat.specs.declared.walk.WrittenEntry.{WrittenEntry}
-use Rattle.si_flat.specs.Flattened.{whole_of, IsEnoughFor}
+use Rattle.si_defs.specs.Entries.{whole_of}
+use Rattle.si_flat.specs.Flattened.{IsEnoughFor}
 use Rattle.si_flat.specs.Flattening.{room_of, walk_state, term_piece, Fits}
-use Rattle.si_flat.proofs.EntryRooms.{enough_fits, written_is_enough, same_whole, entry_walked}
+use Rattle.si_flat.proofs.EntryRooms.{enough_fits, written_is_enough, entry_walked}
 use Rattle.si_flat.proofs.walk.WrittenEntry.write.Goals as goal
 
 pub write_term-requires : goal.write_term-requires
 write_term-requires g c =
-    let is : size (term_of c.whole.result.now) ≡ size (whole_of (entry_of c.args.entry)) = ap size (c.whole.ensures ∙ same_whole (entry_of c.args.entry)) in
+    let is : size (term_of c.whole.result.now) ≡ size (whole_of (entry_of c.args.entry)) = ap size c.whole.ensures in
     record {
       room = record {
         names = omega (arith, ap length c.clear.ensures.names, is, c.requires);
@@ -34,7 +35,7 @@ returns-clause-flat g c =
     entry_walked (g.T.SymTable.pairs c.args.table.now) c.args.owner (entry_of c.args.entry) (record { positive = c.is_positive.result; owner = c.args.owner; first = 2 ^ 31 }) (walk_state c.clear.new.self.met c.reserve.new.self.items) (record { met = c.write_term.new.met; cells = c.write_term.new.cells }) (term_of c.whole.result.now)
     (λ i. record { positive = c.is_positive.ensures i; owner = c.args.owner; first = 2 ^ 31 })
     (λ i. record { names = c.clear.ensures.names i; extra = c.clear.ensures.extra i; cells = (c.in_ok-reserve.ensures.items ∙ c.clear.ensures.cells) i })
-    (c.whole.ensures ∙ same_whole (entry_of c.args.entry)) walked) c.write_term.ensures.flat
+    c.whole.ensures walked) c.write_term.ensures.flat
 
 pub returns-clause-full : goal.returns-clause-full
 returns-clause-full g c =
@@ -50,7 +51,7 @@ returns-clause-full g c =
     } in
     let none : c.reserve.new.self.items ≡ [] = c.in_ok-reserve.ensures.items ∙ c.clear.ensures.cells in
     let fits : IsEnoughFor pairs e old → Fits pairs more start (term_piece (term_of c.whole.result.now)) (size (term_of c.whole.result.now)) = λ enough.
-    subst (λ t. Fits pairs more start (term_piece t) (size t)) (sym (c.whole.ensures ∙ same_whole e))
+    subst (λ t. Fits pairs more start (term_piece t) (size t)) (sym c.whole.ensures)
     (enough_fits pairs e old more start c.clear.ensures.names c.clear.ensures.extra none no_less enough) in
     let weaker : (Fits pairs more start (term_piece (term_of c.whole.result.now)) (size (term_of c.whole.result.now)) → ⊥) → (IsEnoughFor pairs e old → ⊥) = λ refused enough. refused (fits enough) in
     on_err_weaker _ weaker c.write_term.ensures.full

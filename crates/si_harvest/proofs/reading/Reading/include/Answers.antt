@@ -4,7 +4,7 @@ use Rattle.std.proofs.lemmas.Result.{on_ok_weaker}
 use Rattle.si_state.specs.States.{Rules}
 use Rattle.si_harvest.specs.declared.faults.HarvestFault.{HarvestFault}
 use Rattle.si_harvest.specs.declared.files.OpenFile.{OpenFile}
-use Rattle.si_harvest.specs.Faults.{Explains, bounds_of}
+use Rattle.si_harvest.specs.Faults.{NamesWhy, bounds_of}
 use Rattle.si_harvest.specs.Opened.{IsUnopened, FetchesOnce}
 use Rattle.si_harvest.proofs.Fetching.{fetches_from}
 use Rattle.si_harvest.proofs.reading.Reading.include.Goals as goal
@@ -19,7 +19,7 @@ pub returns-clause-unopened : goal.returns-clause-unopened
 returns-clause-unopened g c =
     let told = (g.L.Library.shown c.args.library.now).files in
     let bounds = bounds_of c.args.limits.now in
-    let P : List OpenFile → ℕ → HarvestFault → Type 0 = λ outer before e. (rules : Rules) → Explains rules e (IsUnopened told bounds c.args.name.now outer before c.enter.new.self.fetches) in
+    let P : List OpenFile → ℕ → HarvestFault → Type 0 = λ outer before e. (rules : Rules) → NamesWhy rules e (IsUnopened told bounds c.args.name.now outer before c.enter.new.self.fetches) in
     subst (λ outer. IfErr c.enter.result (P outer c.args.self.now.fetches)) c.in_ok-push.ensures.files
     (subst (λ before. IfErr c.enter.result (P c.push.new.self.files.items before)) c.push.ensures.fetches c.enter.ensures.unopened)
 

@@ -2,7 +2,7 @@ use Rattle.std.proofs.Common.{ℕ, List, ◌++◌, ◌∷◌, [], refl, subst}
 use Rattle.si_term.specs.Meaning.{clause_of}
 use Rattle.si_parse.specs.Meaning.{selection_of}
 use Rattle.si_harvest.specs.declared.files.OpenFile.{OpenFile}
-use Rattle.si_harvest.specs.Faults.{Explains, bounds_of}
+use Rattle.si_harvest.specs.Faults.{NamesWhy, bounds_of}
 use Rattle.si_harvest.specs.Opened.{OpensInside, IsUnopened, FetchesOnce}
 use Rattle.si_harvest.proofs.Stepping.{read_as, steps_fault, step_end, step_clause, step_refused, step_include, step_unopened, step_foreign, step_malformed}
 use Rattle.si_harvest.proofs.reading.Reading.step.Goals as goal
@@ -50,7 +50,7 @@ returns-in_err-include-in-Include-clause-stepped g c =
     (step_unopened told (bounds_of c.args.limits.now) rules c.args.self.now _ c.pop.new.self.items c.in-Some.file c.in-Include.end c.in-Include.name (selection_of c.in-Include.selection)
     c.include.new.self.fetches c.in_err-include-in-Include.field-0.0 c.in-Some.ensures.items
     (read_as _ _ c.in-Some.file.at _ _ c.as_slice.ensures.value c.in-Include.is c.in_ok-next_item.ensures)
-    (subst (λ n. Explains rules c.in_err-include-in-Include.field-0.0 (IsUnopened told (bounds_of c.args.limits.now) n (moved c.pop.new.self.items c.in-Some.file c.in-Include.end) c.args.self.now.fetches c.include.new.self.fetches))
+    (subst (λ n. NamesWhy rules c.in_err-include-in-Include.field-0.0 (IsUnopened told (bounds_of c.args.limits.now) n (moved c.pop.new.self.items c.in-Some.file c.in-Include.end) c.args.self.now.fetches c.include.new.self.fetches))
     c.as_bytes.ensures (c.in_err-include-in-Include.ensures.unopened rules))
     (subst (λ n. FetchesOnce (bounds_of c.args.limits.now) n (moved c.pop.new.self.items c.in-Some.file c.in-Include.end) c.args.self.now.fetches c.include.new.self.fetches) c.as_bytes.ensures c.include.ensures.once))
 

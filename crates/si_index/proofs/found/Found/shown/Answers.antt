@@ -32,13 +32,13 @@ returns c =
     let less = inside ms c.args.n c.args.self.now.hits (ap (λ (f : Finding). f.hits) c.self.view_is) c.requires in
     let here = match_at s leaves ms c.args.n m c.args.self.now.hits (ap (λ (f : Finding). f.hits) c.self.view_is) c.requires c.index-found.ensures c.self.invariant.each in
     let solves = solves_at s (entry_of m.entry) leaves m.leaf c.index-leaf.result.now here.list c.index-leaf.ensures c.list_of-list.result.now c.list_of-list.ensures in
-    subst (λ (f : Finding). ShowsHit f c.args.n (record { solution = c.in_ok-copy.field-0; query_names = c.in_ok-copy_names.field-0; entry_names = c.in_ok-vars_of.field-0; extra = c.in_ok-copy_symbols.field-0 })) c.self.view_is (
+    subst (λ (f : Finding). ShowsHit f c.args.n (record { solution = c.in_ok-copy.field-0; query_names = c.in_ok-copy-2.field-0; entry_names = c.in_ok-vars_of.field-0; extra = c.in_ok-copy_symbols.field-0 })) c.self.view_is (
       hit_of m,
       hit_at ms c.args.n m less c.index-found.ensures,
-      shows_entry s s.index.now.numbers (entry_of m.entry) c.in_ok-copy.field-0 c.in_ok-copy_names.field-0 c.in_ok-vars_of.field-0 c.in_ok-copy_symbols.field-0
+      shows_entry s s.index.now.numbers (entry_of m.entry) c.in_ok-copy.field-0 c.in_ok-copy-2.field-0 c.in_ok-vars_of.field-0 c.in_ok-copy_symbols.field-0
           c.self.invariant.numbers c.self.invariant.ready
           (subst (SolvesEntry s.relation (query_numbers (numbers_of s) s.query.extra) (pattern_in s) (entry_of m.entry)) (sym c.in_ok-copy.ensures) solves)
-          (c.in_ok-copy_names.ensures ∙ c.self.invariant.names)
+          (c.in_ok-copy-2.ensures ∙ c.self.invariant.names)
           c.in_ok-vars_of.ensures
           c.in_ok-copy_symbols.ensures,
     )

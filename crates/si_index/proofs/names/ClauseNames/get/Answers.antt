@@ -1,4 +1,5 @@
-use Rattle.std.proofs.Common.{Some, sym, ap, ◌∙◌}
+use Rattle.std.proofs.Common.{sym, ap, ◌∙◌}
+use Rattle.std.proofs.lemmas.Bool.{false≢true}
 use Rattle.si_term.specs.Meaning.{name_of}
 use Rattle.si_sign.specs.Hashed.{hashed_key}
 use Rattle.si_index.proofs.FoundNames.{key_unknown, name_differs, name_agrees}
@@ -10,15 +11,15 @@ returns-in_default-get c =
     c.get-in_default-get.ensures
     ∙ sym (key_unknown c.args.clauses.now.items names (name_of c.args.name.now) c.in-Some.key (ap (hashed_key names.hashed) (sym c.as_bytes.ensures) ∙ sym c.get.ensures ∙ c.in-Some.is) c.in_default-get.ensures.none)
 
-pub returns-then-is_same : goal.returns-then-is_same
-returns-then-is_same c =
+pub returns-then-is_same_name : goal.returns-then-is_same_name
+returns-then-is_same_name c =
     let names = c.args.self.now in
     sym (name_agrees c.args.clauses.now.items names (name_of c.args.name.now) c.in-Some.key (ap (hashed_key names.hashed) (sym c.as_bytes.ensures) ∙ sym c.get.ensures ∙ c.in-Some.is) c.in-Some-get.kept.now
-    c.in-Some-get.ensures.some (sym c.is_same.ensures ∙ c.if-is_same.true))
+    c.in-Some-get.ensures.some (c.is_same_name.ensures.0 c.if-is_same_name.true))
 
 pub returns : goal.returns
 returns c =
     let names = c.args.self.now in
     c.get-3.ensures
     ∙ sym (name_differs c.args.clauses.now.items names (name_of c.args.name.now) c.in-Some.key (ap (hashed_key names.hashed) (sym c.as_bytes.ensures) ∙ sym c.get.ensures ∙ c.in-Some.is) c.requires c.in-Some-get.kept.now
-    c.in-Some-get.ensures.some (sym c.is_same.ensures ∙ c.if-is_same.false))
+    c.in-Some-get.ensures.some (λ e. false≢true (sym c.if-is_same_name.false ∙ c.is_same_name.ensures.1 e)))

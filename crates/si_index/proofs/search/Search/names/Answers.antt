@@ -11,7 +11,6 @@ use Rattle.si_term.proofs.Inserted.{inserted-firsts, shown}
 use Rattle.si_flat.specs.Flattened.{FillsEntry}
 use Rattle.si_index.specs.Searching.{numbers_of}
 use Rattle.si_index.proofs.FlatLaws.{none_lacks}
-use Rattle.si_index.proofs.VariableLaws.{whole_variables}
 use Rattle.si_index.proofs.search.Search.names.Goals as goal
 
 pub returns-then-branch : goal.returns-then-branch
@@ -22,7 +21,7 @@ returns-then-branch c =
     ∙ c.in_ok-meet_term.ensures c.if-branch.true
     ∙ ap (λ known. insert_all bytes_eq known found) (ap shown c.clear.ensures.items)
     ∙ inserted-firsts bytes_eq bytes_eq-Decides found
-    ∙ ap (firsts bytes_eq) (ap variables c.whole.ensures ∙ whole_variables (entry_of c.args.entry)) in
+    ∙ ap (firsts bytes_eq) (ap variables c.whole.ensures) in
     IfOk-weaker c.from_slice.result (λ names. names.items ≡ c.as_slice.result.now) (λ names. shown names.items ≡ distinct_variables (entry_of c.args.entry)) (λ names is. ap shown is ∙ all) c.from_slice.ensures.ok
 
 pub unreachable-requires : goal.unreachable-requires

@@ -3,7 +3,7 @@ use Rattle.std.proofs.lemmas.Result.{IfOk-weaker}
 use Rattle.si_defs.specs.Grammar.{IsLiteral}
 use Rattle.si_lex.specs.Lexemes.{tokens_of}
 use Rattle.si_parse.specs.GrammarRules.{IsStatement}
-use Rattle.si_parse.specs.Parsing.{Reads, NoSign}
+use Rattle.si_parse.specs.Parsing.{Reads, NoEquation}
 use Rattle.si_term.specs.Meaning.{literal_of}
 use Rattle.si_term.specs.Terms.{term_of}
 use Rattle.si_parse.proofs.ParseSteps.{parses_at}
@@ -13,7 +13,7 @@ use Rattle.si_parse.proofs.grammar.literals.front_literal.Goals as goal
 
 pub returns-in_default : goal.returns-in_default
 returns-in_default c =
-    IfOk-weaker c.statement.result (Reads literal_of IsStatement NoSign c.args.tokens.now) (Reads literal_of IsLiteral NoSign c.args.tokens.now)
+    IfOk-weaker c.statement.result (Reads literal_of IsStatement NoEquation c.args.tokens.now) (Reads literal_of IsLiteral NoEquation c.args.tokens.now)
     (λ r p. literal_plain (mark_none c.in_default.ensures) _ p) c.statement.ensures
 
 pub returns-in-Some-2 : goal.returns-in-Some-2

@@ -10,15 +10,15 @@ use Rattle.si_parse.proofs.grammar.literals.literal.Goals as goal
 pub returns-in_default-clause-read : goal.returns-in_default-clause-read
 returns-in_default-clause-read c = reads_none literal_of c.args.tokens.now c.in_ok-literal.ensures c.in_default.is
 
-pub returns-then-sign_follows-clause-read : goal.returns-then-sign_follows-clause-read
-returns-then-sign_follows-clause-read c =
-    parses_refused (reads_some literal_of c.args.tokens.now c.in_ok-literal.ensures c.in-Some.is) (λ none. false≢true (sym (c.sign_follows.ensures.1 none) ∙ c.if-sign_follows.true))
+pub returns-then-equation_follows-clause-read : goal.returns-then-equation_follows-clause-read
+returns-then-equation_follows-clause-read c =
+    parses_refused (reads_some literal_of c.args.tokens.now c.in_ok-literal.ensures c.in-Some.is) (λ none. false≢true (sym (c.equation_follows.ensures.1 none) ∙ c.if-equation_follows.true))
 
 pub returns-clause-read : goal.returns-clause-read
 returns-clause-read c = reads_some literal_of c.args.tokens.now c.in_ok-literal.ensures c.in-Some.is
 
 pub returns-clause-ends : goal.returns-clause-ends
-returns-clause-ends c = c.sign_follows.ensures.0 c.if-sign_follows.false
+returns-clause-ends c = c.equation_follows.ensures.0 c.if-equation_follows.false
 
 pub returns-clause-sound : goal.returns-clause-sound
 returns-clause-sound c =

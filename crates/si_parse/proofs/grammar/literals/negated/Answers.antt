@@ -3,7 +3,7 @@ use Rattle.std.proofs.lemmas.Result.{IfOk-weaker}
 use Rattle.si_defs.specs.Grammar.{IsAtom}
 use Rattle.si_lex.specs.Lexemes.{tokens_of}
 use Rattle.si_parse.specs.GrammarRules.{IsNegated}
-use Rattle.si_parse.specs.Parsing.{Reads, NoSign}
+use Rattle.si_parse.specs.Parsing.{Reads, NoEquation}
 use Rattle.si_term.specs.Terms.{term_of}
 use Rattle.si_parse.proofs.ParseSteps.{parses_at}
 use Rattle.si_parse.proofs.ParseReads.{reads_some, reads_none, mark_front, mark_none}
@@ -12,7 +12,7 @@ use Rattle.si_parse.proofs.grammar.literals.negated.Goals as goal
 
 pub returns-in_default : goal.returns-in_default
 returns-in_default c =
-    IfOk-weaker c.atom.result (Reads term_of IsAtom NoSign c.args.tokens.now) (Reads term_of IsNegated NoSign c.args.tokens.now)
+    IfOk-weaker c.atom.result (Reads term_of IsAtom NoEquation c.args.tokens.now) (Reads term_of IsNegated NoEquation c.args.tokens.now)
     (λ r p. negated_bare (mark_none c.in_default.ensures) _ p) c.atom.ensures
 
 pub returns-in_default-2 : goal.returns-in_default-2

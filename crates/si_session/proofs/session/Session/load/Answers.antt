@@ -30,9 +30,9 @@ pub returns-then-not-names_file-clause-step : goal.returns-then-not-names_file-c
 returns-then-not-names_file-clause-step g c =
     let library = g.L.Library.shown c.args.library.now in
     let a = g.K.Sink.shown c.args.sink.now in
-    let b = g.K.Sink.shown c.tell.new.sink in
+    let b = g.K.Sink.shown c.report.new.sink in
     let limits = c.self.inside.limits in
-    subst (λ s. Steps s s (a_word c.args.word.now) c.tell.result (around a library) (around b library)) c.self.view_is
-    (nameless_stepped limits library c.self.inside.index c.args.word.now c.tell.result a b
+    subst (λ s. Steps s s (a_word c.args.word.now) c.report.result (around a library) (around b library)) c.self.view_is
+    (nameless_stepped limits library c.self.inside.index c.args.word.now c.report.result a b
     (holds_trees limits c.self.inside.index c.trees.ensures.keyed c.trees.ensures.exactly c.trees.ensures.hold)
-    (sym c.names_file.ensures ∙ c.if-not-names_file.true) c.tell.ensures.written)
+    (sym c.names_file.ensures ∙ c.if-not-names_file.true) c.report.ensures.written)

@@ -11,7 +11,7 @@ use Rattle.si_session.specs.Commands.{ReadsCommand}
 use Rattle.si_session.specs.declared.command.Command.TheVariants as command
 use Rattle.si_session.proofs.Acting.{faults_stand, stepped, not_silent, keeps_state, counts, trees_stepped, explain_stepped, blanks_no_command, line_stepped, long_stepped, unread_stepped, holds_trees, load_stepped, load_not_silent, load_keeps}
 use Rattle.si_session.proofs.session.Session.step.Goals as goal
-use Rattle.si_session.proofs.session.Session.step.Goals.{in-Lit+in-Var+in-Long-1, in-Lit+in-Var+in-Short-1, in-Lit+in-App-1, in-Term+in-Var+in-Long-1, in-Term+in-Var+in-Short-1, in-Term+in-App-1, in-Lit+in-Var+in-Long-2, in-Lit+in-Var+in-Short-2, in-Lit+in-App-2, in-Term+in-Var+in-Long-2, in-Term+in-Var+in-Short-2, in-Term+in-App-2}
+use Rattle.si_session.proofs.session.Session.step.Goals.{in-Lit+in-Var+in-Long-1, in-Lit+in-Var+in-Short-1, in-Lit+in-App+in-Empty-1, in-Lit+in-App+in-Many-1, in-Lit+in-App+in-One-1, in-Lit+in-App+in-Pair-1, in-Lit+in-App+in-Three-1, in-Term+in-Var+in-Long-1, in-Term+in-Var+in-Short-1, in-Term+in-App+in-Empty-1, in-Term+in-App+in-Many-1, in-Term+in-App+in-One-1, in-Term+in-App+in-Pair-1, in-Term+in-App+in-Three-1, in-Lit+in-Var+in-Long-2, in-Lit+in-Var+in-Short-2, in-Lit+in-App+in-Empty-2, in-Lit+in-App+in-Many-2, in-Lit+in-App+in-One-2, in-Lit+in-App+in-Pair-2, in-Lit+in-App+in-Three-2, in-Term+in-Var+in-Long-2, in-Term+in-Var+in-Short-2, in-Term+in-App+in-Empty-2, in-Term+in-App+in-Many-2, in-Term+in-App+in-One-2, in-Term+in-App+in-Pair-2, in-Term+in-App+in-Three-2}
 
 pub returns-in-Ok-Add-clause-step : goal.returns-in-Ok-Add-clause-step
 returns-in-Ok-Add-clause-step g c =
@@ -35,14 +35,22 @@ returns-in-Ok-Query-clause-step g c =
     let done : Steps c.args.self.now (view_of limits c.self.inside.index) (a_line c.args.line.now) c.answer.result (around a library) (around b library) =
     subst (λ s. Steps s (view_of limits c.self.inside.index) (a_line c.args.line.now) c.answer.result (around a library) (around b library)) c.self.view_is
     (stepped limits library c.self.inside.index c.self.inside.index c.args.line.now (query c.in-Ok-Query.relation (pattern_of c.in-Ok-Query.pattern)) c.answer.result a b (holds_trees limits c.self.inside.index c.trees.ensures.keyed c.trees.ensures.exactly c.trees.ensures.hold) refl short read.0 c.answer.ensures.acts (λ reply. tt) (inr refl)) in
-    let told : (new : View) → new ≡ view_of limits c.self.inside.index → Steps c.args.self.now new (a_line c.args.line.now) c.answer.result (around a library) (around b library) = λ new is. subst (λ n. Steps c.args.self.now n (a_line c.args.line.now) c.answer.result (around a library) (around b library)) (sym is) done in
+    let steps : (new : View) → new ≡ view_of limits c.self.inside.index → Steps c.args.self.now new (a_line c.args.line.now) c.answer.result (around a library) (around b library) = λ new is. subst (λ n. Steps c.args.self.now n (a_line c.args.line.now) c.answer.result (around a library) (around b library)) (sym is) done in
     elim c.match-pattern.branch [
-      | in-Lit+in-Var+in-Long-1 w ↦ told _ w.self-is
-      | in-Lit+in-Var+in-Short-1 w ↦ told _ w.self-is
-      | in-Lit+in-App-1 w ↦ told _ w.self-is
-      | in-Term+in-Var+in-Long-1 w ↦ told _ w.self-is
-      | in-Term+in-Var+in-Short-1 w ↦ told _ w.self-is
-      | in-Term+in-App-1 w ↦ told _ w.self-is
+      | in-Lit+in-Var+in-Long-1 w ↦ steps _ w.self-is
+      | in-Lit+in-Var+in-Short-1 w ↦ steps _ w.self-is
+      | in-Lit+in-App+in-Empty-1 w ↦ steps _ w.self-is
+      | in-Lit+in-App+in-Many-1 w ↦ steps _ w.self-is
+      | in-Lit+in-App+in-One-1 w ↦ steps _ w.self-is
+      | in-Lit+in-App+in-Pair-1 w ↦ steps _ w.self-is
+      | in-Lit+in-App+in-Three-1 w ↦ steps _ w.self-is
+      | in-Term+in-Var+in-Long-1 w ↦ steps _ w.self-is
+      | in-Term+in-Var+in-Short-1 w ↦ steps _ w.self-is
+      | in-Term+in-App+in-Empty-1 w ↦ steps _ w.self-is
+      | in-Term+in-App+in-Many-1 w ↦ steps _ w.self-is
+      | in-Term+in-App+in-One-1 w ↦ steps _ w.self-is
+      | in-Term+in-App+in-Pair-1 w ↦ steps _ w.self-is
+      | in-Term+in-App+in-Three-1 w ↦ steps _ w.self-is
     ]
 
 pub returns-in-Ok-Remove-clause-step : goal.returns-in-Ok-Remove-clause-step
@@ -104,15 +112,15 @@ returns-in-Ok-Query-clause-silent g c =
 pub returns-in-Ok-Stats-clause-step : goal.returns-in-Ok-Stats-clause-step
 returns-in-Ok-Stats-clause-step g c =
     let a = (g.K.Sink.shown c.args.sink.now) in
-    let b = (g.K.Sink.shown c.tell-in-Ok-Stats.new.sink) in
+    let b = (g.K.Sink.shown c.report-in-Ok-Stats.new.sink) in
     let limits = c.self.inside.limits in
     let library = g.L.Library.shown c.args.library.now in
     let read : ReadsCommand c.args.line.now command.Stats = subst (ReadsCommand c.args.line.now) c.in-Ok-Stats.field-0-is c.in-Ok-Stats.ensures.read in
     let short : length c.args.line.now ≤ limits.line = omega (arith, c.if-line-self.false) in
-    subst (λ s. Steps s (view_of limits c.self.inside.index) (a_line c.args.line.now) c.tell-in-Ok-Stats.result (around a library) (around b library)) c.self.view_is
-    (stepped limits library c.self.inside.index c.self.inside.index c.args.line.now stats c.tell-in-Ok-Stats.result a b (holds_trees limits c.self.inside.index c.trees.ensures.keyed c.trees.ensures.exactly c.trees.ensures.hold) refl short read
-    (counts c.self.inside.index c.stats.result c.tell-in-Ok-Stats.result a b c.stats.ensures.clauses c.stats.ensures.entries c.stats.ensures.symbols
-    c.tell-in-Ok-Stats.ensures.written) (λ reply. tt) (inr refl))
+    subst (λ s. Steps s (view_of limits c.self.inside.index) (a_line c.args.line.now) c.report-in-Ok-Stats.result (around a library) (around b library)) c.self.view_is
+    (stepped limits library c.self.inside.index c.self.inside.index c.args.line.now stats c.report-in-Ok-Stats.result a b (holds_trees limits c.self.inside.index c.trees.ensures.keyed c.trees.ensures.exactly c.trees.ensures.hold) refl short read
+    (counts c.self.inside.index c.stats.result c.report-in-Ok-Stats.result a b c.stats.ensures.clauses c.stats.ensures.entries c.stats.ensures.symbols
+    c.report-in-Ok-Stats.ensures.written) (λ reply. tt) (inr refl))
 
 -- ---- a load
 pub load_named-requires-clause-limit : goal.load_named-requires-clause-limit
@@ -223,13 +231,13 @@ returns-in-Ok-Sample-clause-refused g c =
 pub returns-in-Ok-Tree-clause-step : goal.returns-in-Ok-Tree-clause-step
 returns-in-Ok-Tree-clause-step g c =
     let a = (g.K.Sink.shown c.args.sink.now) in
-    let b = (g.K.Sink.shown c.tell_trees.new.sink) in
+    let b = (g.K.Sink.shown c.report_trees.new.sink) in
     let limits = c.self.inside.limits in
     let library = g.L.Library.shown c.args.library.now in
     let read : ReadsCommand c.args.line.now command.Tree = subst (ReadsCommand c.args.line.now) c.in-Ok-Tree.field-0-is c.in-Ok-Tree.ensures.read in
     let short : length c.args.line.now ≤ limits.line = omega (arith, c.if-line-self.false) in
-    subst (λ s. Steps s (view_of limits c.self.inside.index) (a_line c.args.line.now) c.tell_trees.result (around a library) (around b library)) c.self.view_is
-    (trees_stepped limits library c.self.inside.index c.args.line.now c.counts.result c.tell_trees.result a b (holds_trees limits c.self.inside.index c.trees.ensures.keyed c.trees.ensures.exactly c.trees.ensures.hold) short read c.counts.ensures.literals c.counts.ensures.terms c.tell_trees.ensures.written)
+    subst (λ s. Steps s (view_of limits c.self.inside.index) (a_line c.args.line.now) c.report_trees.result (around a library) (around b library)) c.self.view_is
+    (trees_stepped limits library c.self.inside.index c.args.line.now c.counts.result c.report_trees.result a b (holds_trees limits c.self.inside.index c.trees.ensures.keyed c.trees.ensures.exactly c.trees.ensures.hold) short read c.counts.ensures.literals c.counts.ensures.terms c.report_trees.ensures.written)
 
 pub returns-in-Ok-Explain-clause-step : goal.returns-in-Ok-Explain-clause-step
 returns-in-Ok-Explain-clause-step g c =
@@ -241,28 +249,36 @@ returns-in-Ok-Explain-clause-step g c =
     let short : length c.args.line.now ≤ limits.line = omega (arith, c.if-line-self.false) in
     let done : Steps c.args.self.now (view_of limits c.self.inside.index) (a_line c.args.line.now) c.explain.result (around a library) (around b library) =
     subst (λ s. Steps s (view_of limits c.self.inside.index) (a_line c.args.line.now) c.explain.result (around a library) (around b library)) c.self.view_is
-    (explain_stepped limits library c.self.inside.index c.args.line.now c.in-Ok-Explain.relation (pattern_of c.in-Ok-Explain.pattern) c.explain.result a b (holds_trees limits c.self.inside.index c.trees.ensures.keyed c.trees.ensures.exactly c.trees.ensures.hold) short read.0 c.explain.ensures.tells) in
-    let told : (new : View) → new ≡ view_of limits c.self.inside.index → Steps c.args.self.now new (a_line c.args.line.now) c.explain.result (around a library) (around b library) = λ new is. subst (λ n. Steps c.args.self.now n (a_line c.args.line.now) c.explain.result (around a library) (around b library)) (sym is) done in
+    (explain_stepped limits library c.self.inside.index c.args.line.now c.in-Ok-Explain.relation (pattern_of c.in-Ok-Explain.pattern) c.explain.result a b (holds_trees limits c.self.inside.index c.trees.ensures.keyed c.trees.ensures.exactly c.trees.ensures.hold) short read.0 c.explain.ensures.reports) in
+    let steps : (new : View) → new ≡ view_of limits c.self.inside.index → Steps c.args.self.now new (a_line c.args.line.now) c.explain.result (around a library) (around b library) = λ new is. subst (λ n. Steps c.args.self.now n (a_line c.args.line.now) c.explain.result (around a library) (around b library)) (sym is) done in
     elim c.match-pattern-6.branch [
-      | in-Lit+in-Var+in-Long-2 w ↦ told _ w.self-is
-      | in-Lit+in-Var+in-Short-2 w ↦ told _ w.self-is
-      | in-Lit+in-App-2 w ↦ told _ w.self-is
-      | in-Term+in-Var+in-Long-2 w ↦ told _ w.self-is
-      | in-Term+in-Var+in-Short-2 w ↦ told _ w.self-is
-      | in-Term+in-App-2 w ↦ told _ w.self-is
+      | in-Lit+in-Var+in-Long-2 w ↦ steps _ w.self-is
+      | in-Lit+in-Var+in-Short-2 w ↦ steps _ w.self-is
+      | in-Lit+in-App+in-Empty-2 w ↦ steps _ w.self-is
+      | in-Lit+in-App+in-Many-2 w ↦ steps _ w.self-is
+      | in-Lit+in-App+in-One-2 w ↦ steps _ w.self-is
+      | in-Lit+in-App+in-Pair-2 w ↦ steps _ w.self-is
+      | in-Lit+in-App+in-Three-2 w ↦ steps _ w.self-is
+      | in-Term+in-Var+in-Long-2 w ↦ steps _ w.self-is
+      | in-Term+in-Var+in-Short-2 w ↦ steps _ w.self-is
+      | in-Term+in-App+in-Empty-2 w ↦ steps _ w.self-is
+      | in-Term+in-App+in-Many-2 w ↦ steps _ w.self-is
+      | in-Term+in-App+in-One-2 w ↦ steps _ w.self-is
+      | in-Term+in-App+in-Pair-2 w ↦ steps _ w.self-is
+      | in-Term+in-App+in-Three-2 w ↦ steps _ w.self-is
     ]
 
 pub returns-in-Some-clause-step : goal.returns-in-Some-clause-step
 returns-in-Some-clause-step g c =
     let a = (g.K.Sink.shown c.args.sink.now) in
-    let b = (g.K.Sink.shown c.tell-in-Some.new.sink) in
+    let b = (g.K.Sink.shown c.report-in-Some.new.sink) in
     let limits = c.self.inside.limits in
     let library = g.L.Library.shown c.args.library.now in
-    let told = c.in-Some.ensures in
+    let explained = c.in-Some.ensures in
     let short : length c.args.line.now ≤ limits.line = omega (arith, c.if-line-self.false) in
-    subst (λ s. Steps s (view_of limits c.self.inside.index) (a_line c.args.line.now) c.tell-in-Some.result (around a library) (around b library)) c.self.view_is
-    (explain_stepped limits library c.self.inside.index c.args.line.now told.0 told.1 c.tell-in-Some.result a b (holds_trees limits c.self.inside.index c.trees.ensures.keyed c.trees.ensures.exactly c.trees.ensures.hold) short told.2
-    (inl (c.in-Some.counts, told.3, c.tell-in-Some.ensures.written)))
+    subst (λ s. Steps s (view_of limits c.self.inside.index) (a_line c.args.line.now) c.report-in-Some.result (around a library) (around b library)) c.self.view_is
+    (explain_stepped limits library c.self.inside.index c.args.line.now explained.0 explained.1 c.report-in-Some.result a b (holds_trees limits c.self.inside.index c.trees.ensures.keyed c.trees.ensures.exactly c.trees.ensures.hold) short explained.2
+    (inl (c.in-Some.counts, explained.3, c.report-in-Some.ensures.written)))
 
 -- ---- lines that are no command
 pub returns-in-Ok-Blank-clause-step : goal.returns-in-Ok-Blank-clause-step
@@ -288,11 +304,11 @@ returns-in-Ok-Foreign-clause-step g c =
     let line = c.args.line.now in
     let library = g.L.Library.shown c.args.library.now in
     let a = g.K.Sink.shown c.args.sink.now in
-    let b = g.K.Sink.shown c.tell-in-Ok-Foreign.new.sink in
+    let b = g.K.Sink.shown c.report-in-Ok-Foreign.new.sink in
     let read : ReadsCommand line command.Foreign = subst (ReadsCommand line) c.in-Ok-Foreign.field-0-is c.in-Ok-Foreign.ensures.read in
     let short : length line ≤ limits.line = omega (arith, c.if-line-self.false) in
-    subst (λ s. Steps s (view_of limits c.self.inside.index) (a_line line) c.tell-in-Ok-Foreign.result (around a library) (around b library)) c.self.view_is
-    (line_stepped limits library index line (language_line ∷ []) c.tell-in-Ok-Foreign.result a b (holds_trees limits c.self.inside.index c.trees.ensures.keyed c.trees.ensures.exactly c.trees.ensures.hold) read.2 (foreign short read.1 read.2 refl refl refl) c.tell-in-Ok-Foreign.ensures.written)
+    subst (λ s. Steps s (view_of limits c.self.inside.index) (a_line line) c.report-in-Ok-Foreign.result (around a library) (around b library)) c.self.view_is
+    (line_stepped limits library index line (language_line ∷ []) c.report-in-Ok-Foreign.result a b (holds_trees limits c.self.inside.index c.trees.ensures.keyed c.trees.ensures.exactly c.trees.ensures.hold) read.2 (foreign short read.1 read.2 refl refl refl) c.report-in-Ok-Foreign.ensures.written)
 
 pub returns-in-Ok-Wrong-clause-step : goal.returns-in-Ok-Wrong-clause-step
 returns-in-Ok-Wrong-clause-step g c =
@@ -301,28 +317,28 @@ returns-in-Ok-Wrong-clause-step g c =
     let line = c.args.line.now in
     let library = g.L.Library.shown c.args.library.now in
     let a = g.K.Sink.shown c.args.sink.now in
-    let b = g.K.Sink.shown c.tell-in-Ok-Wrong.new.sink in
+    let b = g.K.Sink.shown c.report-in-Ok-Wrong.new.sink in
     let read : ReadsCommand line command.Wrong = subst (ReadsCommand line) c.in-Ok-Wrong.field-0-is c.in-Ok-Wrong.ensures.read in
     let short : length line ≤ limits.line = omega (arith, c.if-line-self.false) in
-    subst (λ s. Steps s (view_of limits c.self.inside.index) (a_line line) c.tell-in-Ok-Wrong.result (around a library) (around b library)) c.self.view_is
-    (line_stepped limits library index line (syntax_line ∷ []) c.tell-in-Ok-Wrong.result a b (holds_trees limits c.self.inside.index c.trees.ensures.keyed c.trees.ensures.exactly c.trees.ensures.hold) read.none (wrong short (λ h. read.some h.1) read.own read.none refl refl refl) c.tell-in-Ok-Wrong.ensures.written)
+    subst (λ s. Steps s (view_of limits c.self.inside.index) (a_line line) c.report-in-Ok-Wrong.result (around a library) (around b library)) c.self.view_is
+    (line_stepped limits library index line (syntax_line ∷ []) c.report-in-Ok-Wrong.result a b (holds_trees limits c.self.inside.index c.trees.ensures.keyed c.trees.ensures.exactly c.trees.ensures.hold) read.none (wrong short (λ h. read.some h.1) read.own read.none refl refl refl) c.report-in-Ok-Wrong.ensures.written)
 
 pub returns-in-Err-clause-step : goal.returns-in-Err-clause-step
 returns-in-Err-clause-step g c =
     let limits = c.self.inside.limits in
     let library = g.L.Library.shown c.args.library.now in
     let a = g.K.Sink.shown c.args.sink.now in
-    let b = g.K.Sink.shown c.tell-in-Err.new.sink in
+    let b = g.K.Sink.shown c.report-in-Err.new.sink in
     let short : length c.args.line.now ≤ limits.line = omega (arith, c.if-line-self.false) in
-    subst (λ s. Steps s (view_of limits c.self.inside.index) (a_line c.args.line.now) c.tell-in-Err.result (around a library) (around b library)) c.self.view_is
-    (unread_stepped limits library c.self.inside.index c.args.line.now c.tell-in-Err.result a b (holds_trees limits c.self.inside.index c.trees.ensures.keyed c.trees.ensures.exactly c.trees.ensures.hold) short c.in-Err.ensures.refused c.tell-in-Err.ensures.written)
+    subst (λ s. Steps s (view_of limits c.self.inside.index) (a_line c.args.line.now) c.report-in-Err.result (around a library) (around b library)) c.self.view_is
+    (unread_stepped limits library c.self.inside.index c.args.line.now c.report-in-Err.result a b (holds_trees limits c.self.inside.index c.trees.ensures.keyed c.trees.ensures.exactly c.trees.ensures.hold) short c.in-Err.ensures.refused c.report-in-Err.ensures.written)
 
 pub returns-then-line-self-clause-step : goal.returns-then-line-self-clause-step
 returns-then-line-self-clause-step g c =
     let library = g.L.Library.shown c.args.library.now in
     let a = g.K.Sink.shown c.args.sink.now in
-    let b = g.K.Sink.shown c.tell.new.sink in
+    let b = g.K.Sink.shown c.report.new.sink in
     let limits = c.self.inside.limits in
-    subst (λ s. Steps s s (a_line c.args.line.now) c.tell.result (around a library) (around b library)) c.self.view_is
-    (long_stepped limits library c.self.inside.index c.args.line.now c.tell.result a b
-    (holds_trees limits c.self.inside.index c.trees.ensures.keyed c.trees.ensures.exactly c.trees.ensures.hold) (omega (arith, c.if-line-self.true)) c.tell.ensures.written)
+    subst (λ s. Steps s s (a_line c.args.line.now) c.report.result (around a library) (around b library)) c.self.view_is
+    (long_stepped limits library c.self.inside.index c.args.line.now c.report.result a b
+    (holds_trees limits c.self.inside.index c.trees.ensures.keyed c.trees.ensures.exactly c.trees.ensures.hold) (omega (arith, c.if-line-self.true)) c.report.ensures.written)

@@ -1,20 +1,19 @@
-use Rattle.std.proofs.Common.{[], ◌∷◌, refl, sym, ap, subst}
-use Rattle.si_defs.specs.Substitutions.{IsAmong}
-use Rattle.si_tree.specs.Changes.{IsWithout}
+use Rattle.std.proofs.Common.{refl, sym, ◌∙◌, ap}
 use Rattle.si_tree.specs.KeptNodes.{content_of}
-use Rattle.si_tree.specs.Reading.{postings_of}
-use Rattle.si_tree.specs.Slots.{standing}
-use Rattle.si_tree.proofs.StandingLaws.{only_emptied}
+use Rattle.si_tree.specs.contracts.node.TreeNode.{the_view}
+use Rattle.si_tree.proofs.NodeSteps.{seen}
+use Rattle.si_tree.proofs.node.TreeNode.drop_posting.Goals.{in-One, in-Many}
 use Rattle.si_tree.proofs.node.TreeNode.drop_posting.Goals as goal
 
-pub returns-in-One-clause-stays : goal.returns-in-One-clause-stays
-returns-in-One-clause-stays c = record { parent = refl; bindings = refl; leaf_still = (_, refl) }
-
-pub returns-in-Many-clause-stays : goal.returns-in-Many-clause-stays
-returns-in-Many-clause-stays c = record { parent = refl; bindings = refl; leaf_still = (_, refl) }
-
-pub returns-in-One-clause-dropped : goal.returns-in-One-clause-dropped
-returns-in-One-clause-dropped c =
-    let was = ap (λ k. postings_of (content_of k)) c.in-One.is in
-    subst (λ ps. IsWithout ps c.args.posting (standing (c.empty.new.self ∷ []))) (sym was)
-    (only_emptied c.in-One.slot c.empty.new.self c.args.posting (subst (λ ps. IsAmong ps c.args.posting) was c.requires.there) c.empty.ensures)
+pub returns-clause-stays : goal.returns-clause-stays
+returns-clause-stays c =
+    elim c.match-self.branch [
+      | in-One w ↦
+          let was = sym c.self.view_is ∙ ap (seen c.self.inside.bindings) w.in-One.is in
+          let is = ap the_view w.self-inside-is in
+          record { parent = ap (λ n. n.parent) is ∙ sym (ap (λ n. n.parent) was); bindings = ap (λ n. n.bindings) is ∙ sym (ap (λ n. n.bindings) was); leaf_still = (_, ap (λ n. content_of n.content) is) }
+      | in-Many w ↦
+          let was = sym c.self.view_is ∙ ap (seen c.self.inside.bindings) w.in-Many.is in
+          let is = ap the_view w.self-inside-is in
+          record { parent = ap (λ n. n.parent) is ∙ sym (ap (λ n. n.parent) was); bindings = ap (λ n. n.bindings) is ∙ sym (ap (λ n. n.bindings) was); leaf_still = (_, ap (λ n. content_of n.content) is) }
+    ]

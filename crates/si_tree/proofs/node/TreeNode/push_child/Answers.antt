@@ -1,40 +1,27 @@
-use Rattle.std.proofs.Common.{◌∷◌, ◌++◌, [], refl, sym, ◌∙◌, ap}
-use Rattle.si_legal.specs.Trees.{inner}
-use Rattle.si_tree.specs.Forks.{fork_children, fork_heads, fork_split}
-use Rattle.si_tree.specs.KeptHeads.{heads_in}
-use Rattle.si_tree.specs.KeptNodes.{content_of, heads_of}
+use Rattle.std.proofs.Common.{None, Some, sym, ◌∙◌, ap}
+use Rattle.si_tree.specs.Nodes.{Fork, Inner}
+use Rattle.si_tree.specs.contracts.node.TreeNode.{the_view}
+use Rattle.si_tree.proofs.NodeSteps.{seen, with_content, inner_gains, fork_gains}
+use Rattle.si_tree.proofs.node.TreeNode.push_child.Goals.{in-Root, in-Fork, in-Inner}
 use Rattle.si_tree.proofs.node.TreeNode.push_child.Goals as goal
 
-pub returns-in-Fork : goal.returns-in-Fork
-returns-in-Fork c =
-    let g = c.deref_mut.result.now in
-    let value = sym c.deref_mut.ensures.value in
-    record {
-      split = fork_split g;
-      children = fork_children g;
-      parent = refl;
-      bindings = refl;
-      was = ap content_of c.in-Fork.is ∙ ap (λ f. inner (fork_split f) (fork_children f)) value;
-      is = ap (λ f. inner (fork_split f) (fork_children f)) c.push.ensures;
-      heads = ap fork_heads c.push.ensures ∙ ap (λ hs. hs ++ c.args.head ∷ []) (sym (ap heads_of c.in-Fork.is ∙ ap fork_heads value));
-    }
-
-pub returns-in-Inner : goal.returns-in-Inner
-returns-in-Inner c =
-    let b = c.deref_mut-in-Inner.result.now in
-    let value = sym c.deref_mut-in-Inner.ensures.value in
-    let next = c.deref_mut-in-Inner-2.ensures.value in
-    let split = ap (λ k. k.split) next in
-    let items = c.push_reserved.ensures.items ∙ ap (λ k. k.children.items ++ c.args.child ∷ []) next in
-    record {
-      split = b.split;
-      children = b.children.items;
-      parent = refl;
-      bindings = refl;
-      was = ap content_of c.in-Inner.is ∙ ap (λ k. inner k.split k.children.items) value;
-      is = λ i. inner (split i) (items i);
-      heads =
-          ap (λ k. heads_in k.heads) next
-          ∙ c.push-in-Inner.ensures
-          ∙ ap (λ hs. hs ++ c.args.head ∷ []) (sym (ap heads_of c.in-Inner.is ∙ ap (λ k. heads_in k.heads) value));
-    }
+pub returns : goal.returns
+returns c =
+    let bs = c.self.inside.bindings in
+    elim c.match-self.branch [
+      | in-Root w ↦
+          inner_gains c.args.self.now (the_view c.match-self.self-inside) None bs w.deref_mut.result.now w.push.new.self
+          (sym c.self.view_is ∙ ap (seen bs) w.in-Root.is ∙ ap (λ k. with_content None bs (Inner k)) (sym w.deref_mut.ensures.value))
+          (ap the_view w.self-inside-is)
+          w.push.ensures.split c.args.head c.args.child w.push.ensures.heads w.push.ensures.children
+      | in-Fork w ↦
+          fork_gains c.args.self.now (the_view c.match-self.self-inside) (Some w.in-Fork.field-0) bs w.deref_mut-in-Fork.result.now w.push-in-Fork.new.self
+          (sym c.self.view_is ∙ ap (seen bs) w.in-Fork.is ∙ ap (λ k. with_content (Some w.in-Fork.field-0) bs (Fork k)) (sym w.deref_mut-in-Fork.ensures.value))
+          (ap the_view w.self-inside-is)
+          c.args.head c.args.child w.push-in-Fork.ensures
+      | in-Inner w ↦
+          inner_gains c.args.self.now (the_view c.match-self.self-inside) (Some w.in-Inner.field-0) bs w.deref_mut-in-Inner.result.now w.push-in-Inner.new.self
+          (sym c.self.view_is ∙ ap (seen bs) w.in-Inner.is ∙ ap (λ k. with_content (Some w.in-Inner.field-0) bs (Inner k)) (sym w.deref_mut-in-Inner.ensures.value))
+          (ap the_view w.self-inside-is)
+          w.push-in-Inner.ensures.split c.args.head c.args.child w.push-in-Inner.ensures.heads w.push-in-Inner.ensures.children
+    ]

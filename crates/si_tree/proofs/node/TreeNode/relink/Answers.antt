@@ -1,71 +1,56 @@
-use Rattle.std.proofs.Common.{◌≡◌, ◌<◌, Some, slice_get, refl, sym, ◌∙◌, ap, subst}
-use Rattle.std.proofs.lemmas.Option.{slice_get_within}
-use Rattle.si_legal.specs.Trees.{inner}
-use Rattle.si_tree.specs.Forks.{fork_children, fork_heads, fork_split}
+use Rattle.std.proofs.Common.{◌≡◌, None, Some, slice_get, refl, sym, ◌∙◌, ap, subst}
+use Rattle.si_tree.specs.Forks.{fork_heads}
 use Rattle.si_tree.specs.KeptHeads.{heads_in}
-use Rattle.si_tree.specs.KeptNodes.{content_of, heads_of}
-use Rattle.si_tree.proofs.ChildPlaces.{head_among, child_at}
-use Rattle.si_tree.proofs.PostingLists.{replaced}
+use Rattle.si_tree.specs.KeptNodes.{heads_of, HasChildBy}
+use Rattle.si_tree.specs.Nodes.{Fork, Inner, content_in}
+use Rattle.si_tree.specs.contracts.node.TreeNode.{the_view}
+use Rattle.si_tree.proofs.ChildPlaces.{head_among}
+use Rattle.si_tree.proofs.NodeSteps.{seen, with_content, within_branches, within_forked, inner_relinks, fork_relinks}
+use Rattle.si_tree.proofs.node.TreeNode.relink.Goals.{in-Root, in-Fork, in-Inner}
 use Rattle.si_tree.proofs.node.TreeNode.relink.Goals as goal
 
 pub unreachable-requires : goal.unreachable-requires
 unreachable-requires c =
-    let has = c.requires.1 in
-    c.in_default.ensures.none (head_among _ has.split _ has.children has.content refl c.args.head c.requires.0 has)
+    let has = subst (λ n. HasChildBy n c.args.head c.requires.0) (sym c.self.view_is) c.requires.1 in
+    c.in_default.ensures.none (head_among (the_view c.self.inside) has.split _ has.children has.content refl c.args.head c.requires.0 has)
 
 pub relink-requires : goal.relink-requires
 relink-requires c =
-    let g = c.deref_mut.result.now in
-    let content = ap content_of c.in-Fork.is ∙ ap (λ f. inner (fork_split f) (fork_children f)) (sym c.deref_mut.ensures.value) in
-    let heads = ap heads_of c.in-Fork.is ∙ ap fork_heads (sym c.deref_mut.ensures.value) in
-    let place = c.in-Some.place in
-    let got = subst (λ hs. slice_get hs place ≡ Some c.args.head) heads c.in-Some.ensures.some in
-    slice_get_within (fork_children g) place c.requires.0 (child_at _ (fork_split g) (fork_heads g) (fork_children g) content heads c.args.head c.requires.0 c.requires.1 place got)
+    let heads = ap (λ p. heads_of (content_in p)) c.in-Root.is ∙ ap (λ k. heads_in k.heads) (sym c.deref_mut.ensures.value) in
+    within_branches c.args.self.now None c.self.inside.bindings c.deref_mut.result.now (sym c.self.view_is ∙ ap (seen c.self.inside.bindings) c.in-Root.is ∙ ap (λ k. with_content None c.self.inside.bindings (Inner k)) (sym c.deref_mut.ensures.value))
+    c.args.head c.requires.0 c.requires.1 c.in-Some.at (subst (λ hs. slice_get hs c.in-Some.at ≡ Some c.args.head) heads c.in-Some.ensures.some)
 
-pub index_mut-requires : goal.index_mut-requires
-index_mut-requires c =
-    let b = c.deref_mut-in-Inner.result.now in
-    let content = ap content_of c.in-Inner.is ∙ ap (λ k. inner k.split k.children.items) (sym c.deref_mut-in-Inner.ensures.value) in
-    let heads = ap heads_of c.in-Inner.is ∙ ap (λ k. heads_in k.heads) (sym c.deref_mut-in-Inner.ensures.value) in
-    let place = c.in-Some.place in
-    let got = subst (λ hs. slice_get hs place ≡ Some c.args.head) heads c.in-Some.ensures.some in
-    subst (λ n. place < n) (sym b.children.ok.0)
-    (slice_get_within b.children.items place c.requires.0 (child_at _ b.split (heads_in b.heads) b.children.items content heads c.args.head c.requires.0 c.requires.1 place got))
+pub relink-requires-in-Fork : goal.relink-requires-in-Fork
+relink-requires-in-Fork c =
+    let heads = ap (λ p. heads_of (content_in p)) c.in-Fork.is ∙ ap fork_heads (sym c.deref_mut-in-Fork.ensures.value) in
+    within_forked c.args.self.now (Some c.in-Fork.field-0) c.self.inside.bindings c.deref_mut-in-Fork.result.now (sym c.self.view_is ∙ ap (seen c.self.inside.bindings) c.in-Fork.is ∙ ap (λ k. with_content (Some c.in-Fork.field-0) c.self.inside.bindings (Fork k)) (sym c.deref_mut-in-Fork.ensures.value))
+    c.args.head c.requires.0 c.requires.1 c.in-Some.at (subst (λ hs. slice_get hs c.in-Some.at ≡ Some c.args.head) heads c.in-Some.ensures.some)
 
-pub returns-in-Fork : goal.returns-in-Fork
-returns-in-Fork c child has =
-    let g = c.deref_mut.result.now in
-    let content = ap content_of c.in-Fork.is ∙ ap (λ f. inner (fork_split f) (fork_children f)) (sym c.deref_mut.ensures.value) in
-    let heads = ap heads_of c.in-Fork.is ∙ ap fork_heads (sym c.deref_mut.ensures.value) in
-    let place = c.in-Some.place in
-    let got = subst (λ hs. slice_get hs place ≡ Some c.args.head) heads c.in-Some.ensures.some in
-    record {
-      split = fork_split g;
-      children = fork_children g;
-      after = _;
-      parent = refl;
-      bindings = refl;
-      was = content;
-      is = ap (λ f. inner (fork_split f) (fork_children f)) c.relink.ensures;
-      replaced = replaced (fork_children g) place child c.args.other (child_at _ (fork_split g) (fork_heads g) (fork_children g) content heads c.args.head child has place got);
-      heads = ap fork_heads c.relink.ensures ∙ sym heads;
-    }
+pub relink-requires-in-Inner : goal.relink-requires-in-Inner
+relink-requires-in-Inner c =
+    let heads = ap (λ p. heads_of (content_in p)) c.in-Inner.is ∙ ap (λ k. heads_in k.heads) (sym c.deref_mut-in-Inner.ensures.value) in
+    within_branches c.args.self.now (Some c.in-Inner.field-0) c.self.inside.bindings c.deref_mut-in-Inner.result.now (sym c.self.view_is ∙ ap (seen c.self.inside.bindings) c.in-Inner.is ∙ ap (λ k. with_content (Some c.in-Inner.field-0) c.self.inside.bindings (Inner k)) (sym c.deref_mut-in-Inner.ensures.value))
+    c.args.head c.requires.0 c.requires.1 c.in-Some.at (subst (λ hs. slice_get hs c.in-Some.at ≡ Some c.args.head) heads c.in-Some.ensures.some)
 
-pub returns-in-Inner : goal.returns-in-Inner
-returns-in-Inner c child has =
-    let b = c.deref_mut-in-Inner.result.now in
-    let content = ap content_of c.in-Inner.is ∙ ap (λ k. inner k.split k.children.items) (sym c.deref_mut-in-Inner.ensures.value) in
-    let heads = ap heads_of c.in-Inner.is ∙ ap (λ k. heads_in k.heads) (sym c.deref_mut-in-Inner.ensures.value) in
-    let place = c.in-Some.place in
-    let got = subst (λ hs. slice_get hs place ≡ Some c.args.head) heads c.in-Some.ensures.some in
-    record {
-      split = b.split;
-      children = b.children.items;
-      after = _;
-      parent = refl;
-      bindings = refl;
-      was = content;
-      is = refl;
-      replaced = replaced b.children.items place child c.args.other (child_at _ b.split (heads_in b.heads) b.children.items content heads c.args.head child has place got);
-      heads = sym heads;
-    }
+pub returns : goal.returns
+returns c child has =
+    elim c.match-self.branch [
+      | in-Root w ↦
+          let heads = ap (λ p. heads_of (content_in p)) w.in-Root.is ∙ ap (λ k. heads_in k.heads) (sym w.deref_mut.ensures.value) in
+          inner_relinks c.args.self.now (the_view c.match-self.self-inside) None c.self.inside.bindings w.deref_mut.result.now w.relink.new.self
+          (sym c.self.view_is ∙ ap (seen c.self.inside.bindings) w.in-Root.is ∙ ap (λ k. with_content None c.self.inside.bindings (Inner k)) (sym w.deref_mut.ensures.value))
+          (ap the_view w.self-inside-is)
+          w.relink.ensures.split c.args.head c.in-Some.at child c.args.other has (subst (λ hs. slice_get hs c.in-Some.at ≡ Some c.args.head) heads c.in-Some.ensures.some) w.relink.ensures.heads w.relink.ensures.children
+      | in-Fork w ↦
+          let heads = ap (λ p. heads_of (content_in p)) w.in-Fork.is ∙ ap fork_heads (sym w.deref_mut-in-Fork.ensures.value) in
+          fork_relinks c.args.self.now (the_view c.match-self.self-inside) (Some w.in-Fork.field-0) c.self.inside.bindings w.deref_mut-in-Fork.result.now w.relink-in-Fork.new.self
+          (sym c.self.view_is ∙ ap (seen c.self.inside.bindings) w.in-Fork.is ∙ ap (λ k. with_content (Some w.in-Fork.field-0) c.self.inside.bindings (Fork k)) (sym w.deref_mut-in-Fork.ensures.value))
+          (ap the_view w.self-inside-is)
+          c.args.head c.in-Some.at child c.args.other has (subst (λ hs. slice_get hs c.in-Some.at ≡ Some c.args.head) heads c.in-Some.ensures.some) w.relink-in-Fork.ensures
+      | in-Inner w ↦
+          let heads = ap (λ p. heads_of (content_in p)) w.in-Inner.is ∙ ap (λ k. heads_in k.heads) (sym w.deref_mut-in-Inner.ensures.value) in
+          inner_relinks c.args.self.now (the_view c.match-self.self-inside) (Some w.in-Inner.field-0) c.self.inside.bindings w.deref_mut-in-Inner.result.now w.relink-in-Inner.new.self
+          (sym c.self.view_is ∙ ap (seen c.self.inside.bindings) w.in-Inner.is ∙ ap (λ k. with_content (Some w.in-Inner.field-0) c.self.inside.bindings (Inner k)) (sym w.deref_mut-in-Inner.ensures.value))
+          (ap the_view w.self-inside-is)
+          w.relink-in-Inner.ensures.split c.args.head c.in-Some.at child c.args.other has (subst (λ hs. slice_get hs c.in-Some.at ≡ Some c.args.head) heads c.in-Some.ensures.some) w.relink-in-Inner.ensures.heads w.relink-in-Inner.ensures.children
+    ]

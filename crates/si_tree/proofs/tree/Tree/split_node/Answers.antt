@@ -7,7 +7,8 @@ use Rattle.si_changes.specs.Splits.{MaySplitNode}
 use Rattle.si_tree.specs.declared.tree.Tree.TheInside.{Inside}
 use Rattle.si_tree.specs.Decoding.{bindings_of}
 use Rattle.si_tree.specs.Changes.{parts_of, HasSplitLeaf}
-use Rattle.si_tree.specs.KeptNodes.{tree_of, slot_of}
+use Rattle.si_tree.specs.KeptNodes.{tree_of, slot_of, IsLeafWith}
+use Rattle.si_tree.specs.Rights.{beyond_rights}
 use Rattle.si_legal.specs.Generalizations.{fresh_among}
 use Rattle.si_tree.proofs.RightLaws.{head_found, head_told, lefts_read}
 use Rattle.si_tree.proofs.FreshLaws.{next_fits}
@@ -44,8 +45,8 @@ next_after-next-requires c =
     let fits = next_fits _ may.node.bindings may.new _ _ _ may.may_split may.splits in
     omega (arith, fits, ap (λ ns. length (fresh_among c.self.inside.next ns)) (lefts_read c.args.split.rest_node))
 
-pub leaf-requires : goal.leaf-requires
-leaf-requires c =
+pub joined-requires : goal.joined-requires
+joined-requires c =
     let may = subst (λ t. MaySplitNode t c.args.node (parts_of c.args.split) (bindings_of c.args.others) c.args.posting) (sym c.self.view_is) c.requires.may in
     subst AreDistinct (sym (map-append (λ b. b.0) c.args.split.rest_new c.args.others))
     (subst (λ ns. AreDistinct (ns ++ left_sides c.args.others)) (lefts_read c.args.split.rest_new)
@@ -104,12 +105,12 @@ is_split c =
       may = may;
       put = c.put_between-added.ensures;
       is_fork = c.in_ok-fork.ensures;
-      is_leaf = c.in_ok-leaf.ensures;
+      is_leaf = subst (λ bs. IsLeafWith bs c.args.posting c.in_ok-leaf.leaf) c.in_ok-bindings.ensures c.in_ok-leaf.ensures.leaf;
       with_parent = parent_known _ _ _ _ _ may c.parent.result c.in-Some.parent (subst (λ t. AtNode t c.args.node (λ n. c.parent.result ≡ n.parent)) (sym (same_tree c)) c.parent.ensures) c.in-Some.is;
       first_left = left.is;
       root = refl;
       next = c.next_after-next.ensures;
-      vars = c.max-vars.ensures ∙ ap (max c.self.inside.vars) c.beyond_entries.ensures;
+      vars = c.max-vars.ensures ∙ ap (max c.self.inside.vars) (c.beyond_entries.ensures ∙ ap beyond_rights (sym c.in_ok-leaf.ensures.leaf.binds));
     }
 
 pub invariant_of-self-2 : goal.invariant_of-self-2

@@ -1,6 +1,5 @@
 -- Two terms of which one is a variable, or whose heads differ.
 use Rattle.std.proofs.Common.{◌≡◌, ℕ, ◌+◌, ◌≤◌, true, List, [], ◌∷◌, get_or, refl, sym, ◌∙◌, ap, subst, arith, None, Some}
-use Rattle.std.proofs.lemmas.Bool.{eq-eqb}
 use Rattle.std.specs.List.{AllByRecursion}
 use Rattle.std.specs.Borrow.{Bor}
 use Rattle.si_defs.specs.Terms as terms
@@ -11,12 +10,13 @@ use Rattle.si_trail.specs.Trails.{value_at}
 use Rattle.si_unify.specs.declared.slots.Slots.{Slots}
 use Rattle.si_unify.specs.Solving.{Pairs, slot_of, variable_of, is_frozen, CellIsInRange, AreInRange, Equalizes, IsSolvedBy, IsBinding, IsInRange}
 use Rattle.si_unify.specs.Spots.{free_slot}
+use Rattle.si_unify.specs.Symbols.{same_symbol}
 use Rattle.si_unify.proofs.Places.{value_holds, first_cell, whole_at, cell-at, inside, in_range-at, in_range-variable, variable_of-slot_of}
 use Rattle.si_unify.proofs.Reading.{one_term}
 use Rattle.si_unify.proofs.Weights.{fits_all}
-use Rattle.si_unify.proofs.Meeting.{free_variable, frozen_variable}
+use Rattle.si_unify.proofs.Meeting.{both_heads, free_variable, frozen_variable}
 use Rattle.si_fit.specs.Ends.{EndsAt}
-use Rattle.si_fit.specs.Meeting.{IsOpenSlot, IsSameVariable, slot_cells, same_symbol, HasMet, LeavesFrozen}
+use Rattle.si_fit.specs.Meeting.{IsOpenSlot, IsSameVariable, slot_cells, HasMet, LeavesFrozen}
 use Rattle.si_fit.specs.declared.meeting.Met.{Met}
 use Rattle.si_fit.specs.declared.meeting.Met.TheVariants.{Equal, Clash, Unknown}
 use Rattle.si_fit.specs.Occurring.{IsOtherUnbound, IsFreeFor, image_size, OccursIn}
@@ -118,9 +118,6 @@ pub right_met : (slots : Slots) (old new : Pairs) (slot : ℕ) (left right : Lis
 right_met slots old new slot left right m x h = met_turned slots old new right left m (left_met slots old new slot right left m x h)
 
 -- symbols that differ
-same_heads : (s r : Symbol) (m n : ℕ) → s ≡ r → same_symbol (cell.App s.number s.arity m) (cell.App r.number r.arity n) ≡ true
-same_heads s r m n e = rw (eq-eqb s.number r.number (ap (λ a. a.number) e), eq-eqb s.arity r.arity (ap (λ a. a.arity) e)) refl
-
 self_variable : (x y : Variable) → x ≡ y → IsSameVariable (variable_cell x) (variable_cell y)
 self_variable x y e = subst (λ z. IsSameVariable (variable_cell x) (variable_cell z)) e (self x) where
   self : (x : Variable) → IsSameVariable (variable_cell x) (variable_cell x)
@@ -137,7 +134,7 @@ apart slots (terms.var x) (terms.app r us) f others left right heads leaves e =
 apart slots (terms.app s ts) (terms.var y) f others left right heads leaves e =
     let bad : terms.app s (terms.substitute_all f ts) ≡ terms.var y = e ∙ leaves y (frozen_variable slots y right) in cc
 apart slots (terms.app s ts) (terms.app r us) f others left right heads leaves e =
-    let same : s ≡ r = cc in heads (same_heads s r (1 + terms.sizes ts) (1 + terms.sizes us) same)
+    let same : s ≡ r = cc in heads (both_heads s r (1 + terms.sizes ts) (1 + terms.sizes us) same)
 
 pub heads_clash : (slots : Slots) (old new : Pairs) (left right : List Cell) → IsWhole left → IsWhole right → (IsSameVariable (get_or left 0 no_cell) (get_or right 0 no_cell) → ⊥) → free_slot slots (get_or left 0 no_cell) ≡ None → free_slot slots (get_or right 0 no_cell) ≡ None → (same_symbol (get_or left 0 no_cell) (get_or right 0 no_cell) ≡ true → ⊥) → HasMet slots old new left right Clash
 heads_clash slots old new left right t u others left_fixed right_fixed heads f solved equal =

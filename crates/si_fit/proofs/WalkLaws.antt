@@ -1,5 +1,5 @@
 -- The walk over two terms: rows of terms are left of both.
-use Rattle.std.proofs.Common.{◌≡◌, ◌↔◌, ℕ, ◌+◌, ◌<◌, ◌≤◌, true, false, cond, List, [], ◌∷◌, ◌++◌, length, take, drop, get_or, refl, sym, ◌∙◌, ap, subst, arith, append-nil, length-append, drop-drop, None, Some}
+use Rattle.std.proofs.Common.{◌≡◌, ◌↔◌, ℕ, ◌+◌, ◌<◌, ◌≤◌, true, false, List, [], ◌∷◌, ◌++◌, length, take, drop, get_or, refl, sym, ◌∙◌, ap, subst, arith, append-nil, length-append, drop-drop}
 use Rattle.std.proofs.lemmas.List.{length-drop}
 use Rattle.std.proofs.Math.Seq.{drop-append_seam}
 use Rattle.si_defs.specs.Terms as terms
@@ -12,7 +12,8 @@ use Rattle.si_flat.specs.Cells.{Symbol, Variable, Term, Terms, join, cells_of, c
 use Rattle.si_flat.proofs.Subterms.{length-cells_of_all, cells_some}
 use Rattle.si_unify.specs.declared.slots.Slots.{Slots}
 use Rattle.si_unify.specs.Solving.{Pairs, CellIsInRange, AreInRange, Equalizes, IsSolvedBy, AllowsSolving}
-use Rattle.si_unify.specs.Spots.{IsAt, common_arity}
+use Rattle.si_unify.specs.Spots.{IsAt}
+use Rattle.si_unify.specs.Symbols.{same_symbol}
 use Rattle.si_unify.proofs.Places.{first_cell, cell-at, inside}
 use Rattle.si_unify.proofs.Reading.{one_term}
 use Rattle.si_unify.proofs.Rows.{cells-join, sound-join, count-join, substitute-join, count-substitute, join_injective}
@@ -20,7 +21,7 @@ use Rattle.si_unify.proofs.Binding.{cut_stands}
 use Rattle.si_unify.proofs.Comparing.{grows_on}
 use Rattle.si_unify.proofs.Meeting.{HaveHead, have_head}
 use Rattle.si_fit.specs.Fitting.{StayWithin}
-use Rattle.si_fit.specs.Meeting.{same_symbol, HasMet}
+use Rattle.si_fit.specs.Meeting.{HasMet}
 use Rattle.si_fit.specs.declared.meeting.Met.TheVariants.{Equal, Clash}
 use Rattle.si_fit.proofs.EndLaws.{no_cell}
 use Rattle.si_fit.proofs.FitTurns.{no_more}
@@ -39,16 +40,6 @@ cut_in_range slots cells at piece range place = subst (AreInRange slots) (sym pl
 no_terms : (ts : Terms) → length (cells_of_all ts) ≡ 0 → ts ≡ terms.none
 no_terms terms.none e = refl
 no_terms (terms.more t ts) e = absurd (omega (arith, e, length-cells_of_all (terms.more t ts), size_some t))
-
--- ---- heads
-known_arity : (c d : Cell) → same_symbol c d ≡ true → (arity : ℕ) × (common_arity c d ≡ Some arity)
-known_arity (cell.App s a m) (cell.App r b n) e = (a, ap (λ k. cond k (Some a) None) e)
-known_arity (cell.App s a m) (cell.Query n) e = cc
-known_arity (cell.App s a m) (cell.Entry n) e = cc
-known_arity (cell.App s a m) (cell.Ind n) e = cc
-known_arity (cell.Query m) d e = cc
-known_arity (cell.Entry m) d e = cc
-known_arity (cell.Ind m) d e = cc
 
 module _ (slots : Slots) (left right : List Cell) (old : Pairs) (count : ℕ) where
   -- the row `ts` is left of the one term, and `us` of the other
@@ -143,8 +134,8 @@ module _ (slots : Slots) (left right : List Cell) (old : Pairs) (count : ℕ) wh
         );
       }
 
-  heads_passed : (pairs : Pairs) (i j : ℕ) (t u : Term) (ts us : Terms) (arity : ℕ) (head : HaveHead t u arity) → AreLeft pairs i j (terms.more t ts) (terms.more u us) → AreLeft pairs (i + 1) (j + 1) (join head.left_arguments ts) (join head.right_arguments us)
-  heads_passed pairs i j t u ts us arity head h =
+  heads_passed : (pairs : Pairs) (i j : ℕ) (t u : Term) (ts us : Terms) (head : HaveHead t u) → AreLeft pairs i j (terms.more t ts) (terms.more u us) → AreLeft pairs (i + 1) (j + 1) (join head.left_arguments ts) (join head.right_arguments us)
+  heads_passed pairs i j t u ts us head h =
       symbol_passed pairs i j head.symbol head.left_arguments head.right_arguments ts us
       (subst (λ v. AreLeft pairs i j (terms.more (terms.app head.symbol head.left_arguments) ts) (terms.more v us)) head.right
       (subst (λ v. AreLeft pairs i j (terms.more v ts) (terms.more u us)) head.left h))
@@ -154,12 +145,11 @@ module _ (slots : Slots) (left right : List Cell) (old : Pairs) (count : ℕ) wh
       let n = next_terms pairs i j h less in
       let cells : same_symbol (first_cell n.t) (first_cell n.u) ≡ true =
       ap (λ c. same_symbol c (first_cell n.u)) (sym (cell-at left i n.t no_cell n.left_at)) ∙ ap (same_symbol (get_or left i no_cell)) (sym (cell-at right j n.u no_cell n.right_at)) ∙ e in
-      let arity = known_arity (first_cell n.t) (first_cell n.u) cells in
-      let head = have_head n.t n.u arity.0 arity.1 in
+      let head = have_head n.t n.u cells in
       record {
         ts = join head.left_arguments n.ts;
         us = join head.right_arguments n.us;
-        rows = heads_passed pairs i j n.t n.u n.ts n.us arity.0 head n.rows;
+        rows = heads_passed pairs i j n.t n.u n.ts n.us head n.rows;
         grows = h.grows;
         ready = h.ready;
         within = h.within;

@@ -1,5 +1,5 @@
 -- What is told of two terms that are to be made equal, where no search is made.
-use Rattle.std.specs.Prelude.{◌≡◌, ℕ, ◌↔◌, ◌==◌, Bool, true, false, ◌&&◌, List, [], ◌∷◌}
+use Rattle.std.specs.Prelude.{◌≡◌, ℕ, ◌↔◌, true, List, [], ◌∷◌}
 use Rattle.si_defs.specs.Terms as terms
 use Rattle.si_flat.specs.declared.Cell.{Cell}
 use Rattle.si_flat.specs.declared.Cell.TheVariants as cell
@@ -15,10 +15,6 @@ IsSameVariable (cell.Query m) (cell.Query n) = m ≡ n
 IsSameVariable (cell.Entry m) (cell.Entry n) = m ≡ n
 IsSameVariable (cell.Ind m) (cell.Ind n) = m ≡ n
 IsSameVariable _ _ = ⊥
-
-abbrev pub same_symbol : Cell → Cell → Bool
-same_symbol (cell.App s a m) (cell.App r b n) = s == r && a == b
-same_symbol _ _ = false
 
 -- ---- variables
 -- the slot of a variable that isn't frozen

@@ -2,16 +2,17 @@
 ghost use Rattle.std.specs.Prelude.{IsTrue, get_or};
 ghost use Rattle.std.specs.List.{AllByRecursion};
 ghost use Rattle.si_flat.specs.declared.Cell.TheVariants.{App};
+ghost use Rattle.si_unify.specs.Symbols.{same_symbol};
 ghost use Rattle.si_fit.specs.Fitting.{AreWalkable, StaysSolvable, StayWithin};
 ghost use Rattle.si_fit.specs.Fresh.{StandOnce, IsNew};
-ghost use Rattle.si_fit.specs.Meeting.{same_symbol, HasMet};
+ghost use Rattle.si_fit.specs.Meeting.{HasMet};
 
 use crate::ends::end_of;
-use crate::meeting::{Met, have_same_symbol};
+use crate::meeting::Met;
 use crate::walking::meet;
 use si_flat::{Cell, sub};
 use si_trail::Trail;
-use si_unify::Slots;
+use si_unify::{Slots, have_same_symbol};
 
 // Makes a term equal to a right side, each indicator of which is bound to what stands in its place
 // without a search, and without a look at its slot.

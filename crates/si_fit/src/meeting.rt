@@ -6,7 +6,7 @@ ghost use Rattle.si_trail.specs.Trails.{value_at};
 ghost use Rattle.si_unify.specs.Rooms.{AreNoLongerThan};
 ghost use Rattle.si_unify.specs.Solving.{AreInRange, AllowsSolving};
 ghost use Rattle.si_fit.specs.Fitting.{StaysSolvable};
-ghost use Rattle.si_fit.specs.Meeting.{IsOpenSlot, IsSameVariable, slot_cells, same_symbol, HasMet};
+ghost use Rattle.si_fit.specs.Meeting.{IsOpenSlot, IsSameVariable, slot_cells, HasMet};
 ghost use Rattle.si_fit.specs.Occurring.{IsFreeFor};
 
 use crate::occurring::{Occurrence, search};
@@ -23,24 +23,6 @@ pub(crate) enum Met {
     Clash,
     /// It wasn't found out.
     Unknown,
-}
-
-/// Whether terms that begin with these cells have the same symbol at the head.
-#[inline(always)]
-pub(crate) fn have_same_symbol(one: Cell, other: Cell) -> bool
-    ensures { result ≡ same_symbol one other }
-{
-    match (one, other) {
-        (
-            Cell::App { sym, arity, .. },
-            Cell::App {
-                sym: other_sym,
-                arity: other_arity,
-                ..
-            },
-        ) => sym == other_sym && arity == other_arity,
-        _ => false,
-    }
 }
 
 /// Whether the cells are those of one variable.

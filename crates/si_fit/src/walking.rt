@@ -3,13 +3,14 @@ ghost use Rattle.std.specs.Prelude.{◌≡◌, ◌≤◌, None, Some, IsTrue, ge
 ghost use Rattle.si_flat.specs.declared.Cell.TheVariants.{App};
 ghost use Rattle.si_trail.specs.Trails.{value_at};
 ghost use Rattle.si_unify.specs.Spots.{free_slot};
+ghost use Rattle.si_unify.specs.Symbols.{same_symbol};
 ghost use Rattle.si_fit.specs.Fitting.{AreWalkable, StaysSolvable, StayWithin};
-ghost use Rattle.si_fit.specs.Meeting.{same_symbol, HasMet};
+ghost use Rattle.si_fit.specs.Meeting.{HasMet};
 
-use crate::meeting::{Met, bind, have_same_symbol, is_same_variable, value_at};
+use crate::meeting::{Met, bind, is_same_variable, value_at};
 use si_flat::{Cell, sub};
 use si_trail::Trail;
-use si_unify::Slots;
+use si_unify::{Slots, have_same_symbol};
 
 /// Makes two terms equal by binding variables, and follows those that are bound.
 ///

@@ -8,8 +8,11 @@ use Rattle.si_defs.specs.Terms as terms
 use Rattle.si_defs.proofs.TermLaws.{size_some}
 use Rattle.si_flat.specs.declared.Cell.{Cell}
 use Rattle.si_flat.specs.declared.Cell.TheVariants as cell
-use Rattle.si_flat.specs.Cells.{Symbol, Variable, query, entry, ind, same_variable, Term, Terms, variable_cell, cells_of, cells_of_all, IsSound, AreSound, StandsFor, IsWhole, join}
+use Rattle.si_flat.specs.Cells.{Symbol, Variable, same_variable, Term, Terms, variable_cell, cells_of, cells_of_all, IsSound, AreSound, StandsFor, IsWhole, join}
 use Rattle.si_flat.proofs.Subterms.{length-cells_of}
+use Rattle.si_unify.specs.Symbols.{same_symbol}
+use Rattle.si_unify.proofs.Meeting.{HaveHead, both_heads, have_head}
+use Rattle.si_unify.proofs.Places.{first_cell}
 use Rattle.si_unify.proofs.Reading.{same_term, one_term}
 use Rattle.si_unify.proofs.Rows.{cells-join, sound-join, count-join, substitute-join, count-substitute, join_injective}
 use Rattle.si_flat.specs.declared.Owner.{Owner}
@@ -17,7 +20,7 @@ use Rattle.si_flat.specs.declared.Owner.TheVariants.{Query, Entry}
 use Rattle.si_form.specs.declared.matching.Image.{Image}
 use Rattle.si_flat.specs.Flattening.{owners_variable}
 use Rattle.si_form.specs.Answers.{owners_variables, AreNumbered}
-use Rattle.si_form.specs.Matching.{variable_number, HaveSameSymbol, HasKnownAs, StepsOver, ComparesSymbols, StepsAs, StepsOnCell, AreNumberedImages, Assigns, NoMatch, IsMatchedBy, IsMatched}
+use Rattle.si_form.specs.Matching.{variable_number, HasKnownAs, StepsOver, ComparesSymbols, StepsAs, StepsOnCell, AreNumberedImages, Assigns, NoMatch, IsMatchedBy, IsMatched}
 use Rattle.si_form.proofs.VariableLaws.{number_of}
 use Rattle.si_form.proofs.Counting.{NumberedTo, numbered_to}
 use Rattle.si_form.proofs.ImageLaws.{HasImage, image_at, no_image, image_added, agrees_at, agrees_front, agrees_more}
@@ -42,16 +45,6 @@ variables-join (terms.more t ts) us =
 pub no_number : (owner : Owner) (s a n : ℕ) → variable_number owner (cell.App s a n) ≡ None
 no_number Query s a n = refl
 no_number Entry s a n = refl
-
-variable_differs : (s a n : ℕ) (y : Variable) → HaveSameSymbol (cell.App s a n) (variable_cell y) → ⊥
-variable_differs s a n (query k) h = h
-variable_differs s a n (entry k) h = h
-variable_differs s a n (ind k) h = h
-
-symbol_of : (s r : Symbol) → s.number ≡ r.number → s.arity ≡ r.arity → s ≡ r
-symbol_of s r number arity =
-    let make : ℕ → ℕ → Symbol = λ a b. record { number = a; arity = b } in
-    ap (λ a. make a s.arity) number ∙ ap (make r.number) arity
 
 -- ---- what is left
 -- the rows ts and rs are left to compare; a map takes q to e if and only if it takes ts to rs and
@@ -100,7 +93,7 @@ module _ (owner : Owner) (q e : Term) (pattern target : List Cell) (i j m : ℕ)
   Rest images ts rs us = LeftOf owner q e pattern target images i j m ts rs us
 
   -- the symbols at both places
-  symbol_off : (old : List Image) (s : Symbol) (as' ts rs : Terms) (us : List Term) (c d : Cell) → Rest old (terms.more (terms.app s as') ts) rs us → c ≡ cell.App s.number s.arity (1 + terms.sizes as') → d ≡ get_or target j (cell.App 0 0 0) → (HaveSameSymbol c d → ⊥) → NoMatch q e
+  symbol_off : (old : List Image) (s : Symbol) (as' ts rs : Terms) (us : List Term) (c d : Cell) → Rest old (terms.more (terms.app s as') ts) rs us → c ≡ cell.App s.number s.arity (1 + terms.sizes as') → d ≡ get_or target j (cell.App 0 0 0) → same_symbol c d ≡ false → NoMatch q e
   symbol_off old s as' ts rs us c d h head there differs f takes = clash rs refl
     where
       row : terms.substitute_all f (terms.more (terms.app s as') ts) ≡ rs
@@ -115,29 +108,31 @@ module _ (owner : Owner) (q e : Term) (pattern target : List Cell) (i j m : ℕ)
           let symbols : s ≡ r = cc in
           let here : d ≡ cell.App r.number r.arity (1 + terms.sizes bs) =
           there ∙ head_at target j (cell.App r.number r.arity (1 + terms.sizes bs)) (cell.App 0 0 0) (cells_of_all bs ++ cells_of_all others) (h.target_rest ∙ ap cells_of_all is) in
-          differs (
-          subst (λ x. HaveSameSymbol x d) (sym head)
-          (subst (HaveSameSymbol (cell.App s.number s.arity (1 + terms.sizes as'))) (sym here) (ap (λ x. x.number) symbols, ap (λ x. x.arity) symbols))
-          )
+          let bad : true ≡ false =
+          sym (both_heads s r (1 + terms.sizes as') (1 + terms.sizes bs) symbols)
+          ∙ ap (λ x. same_symbol x (cell.App r.number r.arity (1 + terms.sizes bs))) (sym head)
+          ∙ ap (same_symbol c) (sym here)
+          ∙ differs in
+          cc
 
-  symbol_on : (old : List Image) (s : Symbol) (as' ts rs : Terms) (us : List Term) (c d : Cell) (n : ℕ) → Rest old (terms.more (terms.app s as') ts) rs us → c ≡ cell.App s.number s.arity (1 + terms.sizes as') → d ≡ get_or target j (cell.App 0 0 0) → HaveSameSymbol c d → n ≡ 1 → Left owner q e pattern target old (i + 1) (j + n) m
+  heads : (s : Symbol) (as' : Terms) (c d : Cell) (u : Term) → c ≡ cell.App s.number s.arity (1 + terms.sizes as') → d ≡ first_cell u → same_symbol c d ≡ true → HaveHead (terms.app s as') u
+  heads s as' c d u head here same =
+      have_head (terms.app s as') u (ap (λ x. same_symbol x (first_cell u)) (sym head) ∙ ap (same_symbol c) (sym here) ∙ same)
+
+  symbol_on : (old : List Image) (s : Symbol) (as' ts rs : Terms) (us : List Term) (c d : Cell) (n : ℕ) → Rest old (terms.more (terms.app s as') ts) rs us → c ≡ cell.App s.number s.arity (1 + terms.sizes as') → d ≡ get_or target j (cell.App 0 0 0) → same_symbol c d ≡ true → n ≡ 1 → Left owner q e pattern target old (i + 1) (j + n) m
   symbol_on old s as' ts terms.none us c d n h head there same one = absurd (omega (arith, h.same_count))
   symbol_on old s as' ts (terms.more (terms.var y) others) us c d n h head there same one =
-      absurd (
-      variable_differs s.number s.arity (1 + terms.sizes as') y
-      (
-      subst (HaveSameSymbol (cell.App s.number s.arity (1 + terms.sizes as')))
-      (there ∙ head_at target j (variable_cell y) (cell.App 0 0 0) (cells_of_all others) h.target_rest)
-      (subst (λ x. HaveSameSymbol x d) head same)
-      )
-      )
+      let both = heads s as' c d (terms.var y) head (there ∙ head_at target j (variable_cell y) (cell.App 0 0 0) (cells_of_all others) h.target_rest) same in
+      let bad : terms.var y ≡ terms.app both.symbol both.right_arguments = both.right in
+      cc
   symbol_on old s as' ts (terms.more (terms.app r bs) others) us c d n h head there same one =
       let here : d ≡ cell.App r.number r.arity (1 + terms.sizes bs) =
       there ∙ head_at target j (cell.App r.number r.arity (1 + terms.sizes bs)) (cell.App 0 0 0) (cells_of_all bs ++ cells_of_all others) h.target_rest in
-      let both : HaveSameSymbol (cell.App s.number s.arity (1 + terms.sizes as')) (cell.App r.number r.arity (1 + terms.sizes bs)) =
-      subst (HaveSameSymbol (cell.App s.number s.arity (1 + terms.sizes as'))) here (subst (λ x. HaveSameSymbol x d) head same) in
-      let symbols : s ≡ r = symbol_of s r both.0 both.1 in
-      let counts : terms.count as' ≡ terms.count bs = h.ts_sound.0.0 ∙ both.1 ∙ sym h.rs_sound.0.0 in (
+      let both = heads s as' c d (terms.app r bs) head here same in
+      let left : terms.app s as' ≡ terms.app both.symbol both.left_arguments = both.left in
+      let right : terms.app r bs ≡ terms.app both.symbol both.right_arguments = both.right in
+      let symbols : s ≡ r = cc in
+      let counts : terms.count as' ≡ terms.count bs = h.ts_sound.0.0 ∙ ap (λ x. x.arity) symbols ∙ sym h.rs_sound.0.0 in (
         join as' ts,
         join bs others,
         us,

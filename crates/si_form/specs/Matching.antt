@@ -1,5 +1,5 @@
 -- Matching: which slices of the target the variables of the pattern stand for.
-use Rattle.std.specs.Prelude.{◌≡◌, ℕ, suc, ◌↔◌, Bool, true, false, if◌then◌else◌, IsTrue, List, [], ◌∷◌, ◌++◌, length, take, drop, slice_get, slice_index_or as get_or, Option, None, Some}
+use Rattle.std.specs.Prelude.{◌≡◌, ℕ, suc, ◌↔◌, Bool, true, false, if◌then◌else◌, IsTrue, IsFalse, List, [], ◌∷◌, ◌++◌, length, take, drop, slice_get, slice_index_or as get_or, Option, None, Some}
 use Rattle.std.specs.List.{AllByRecursion}
 use Rattle.std.specs.Borrow.{Bor}
 use Rattle.si_defs.specs.Terms as terms
@@ -8,6 +8,7 @@ use Rattle.si_flat.specs.declared.Cell.TheVariants as cell
 use Rattle.si_flat.specs.Cells.{Variable, same_variable, Term, StandsFor, IsWhole}
 use Rattle.si_flat.specs.declared.Owner.{Owner}
 use Rattle.si_flat.specs.declared.Owner.TheVariants.{Query, Entry}
+use Rattle.si_unify.specs.Symbols.{same_symbol}
 use Rattle.si_form.specs.declared.solution.Binding.{Binding}
 use Rattle.si_form.specs.declared.matching.Image.{Image}
 use Rattle.si_flat.specs.Flattening.{owners_variable}
@@ -18,10 +19,6 @@ abbrev pub variable_number : Owner → Cell → Option ℕ
 variable_number Query (cell.Query n) = Some n
 variable_number Entry (cell.Entry n) = Some n
 variable_number _ _ = None
-
-abbrev pub HaveSameSymbol : Cell → Cell → Type 0
-HaveSameSymbol (cell.App s a m) (cell.App r b n) = (s ≡ r) × (a ≡ b)
-HaveSameSymbol _ _ = ⊥
 
 -- ---- one cell of the pattern
 -- a variable that was met stands for what it stood for; another is added
@@ -44,8 +41,8 @@ pub record StepsOver (number : ℕ) (target : List Cell) (at : ℕ) (old new : L
   pub answer_is : answer ≡ (if fits then Some (length value.now) else None)
 
 abbrev pub ComparesSymbols : Cell → Cell → Option ℕ → Type 0
-ComparesSymbols c d (Some n) = HaveSameSymbol c d × (n ≡ 1)
-ComparesSymbols c d None = HaveSameSymbol c d → ⊥
+ComparesSymbols c d (Some n) = IsTrue (same_symbol c d) × (n ≡ 1)
+ComparesSymbols c d None = IsFalse (same_symbol c d)
 
 abbrev pub StepsAs : Cell → List Cell → ℕ → List Image → List Image → Option ℕ → Option ℕ → Type 0
 StepsAs c target at old new (Some number) answer = StepsOver number target at old new answer

@@ -2,9 +2,10 @@
 ghost use Rattle.std.specs.Prelude.{◌≡◌, ◌<◌, ◌↔◌, IsTrue, IfOk, [], length};
 ghost use Rattle.si_flat.specs.Cells.{IsWhole};
 ghost use Rattle.si_form.specs.Answers.{AreNumbered};
-ghost use Rattle.si_form.specs.Matching.{variable_number, HaveSameSymbol, HasKnown, StepsOnCell, IsMatched};
+ghost use Rattle.si_form.specs.Matching.{variable_number, HasKnown, StepsOnCell, IsMatched};
 
 use si_flat::{Cell, Owner, sub};
+use si_unify::have_same_symbol;
 use smallvec::SmallVec;
 use std::alloc::AllocError;
 
@@ -26,23 +27,6 @@ pub(crate) fn variable_number(owner: Owner, cell: Cell) -> Option<u32>
         (Owner::Query, Cell::Query(number)) => Some(number),
         (Owner::Entry, Cell::Entry(number)) => Some(number),
         _ => None,
-    }
-}
-
-// Whether both are cells of one symbol.
-fn have_same_symbol(left: Cell, right: Cell) -> bool
-    ensures { IsTrue result ↔ HaveSameSymbol left right }
-{
-    match (left, right) {
-        (
-            Cell::App { sym, arity, .. },
-            Cell::App {
-                sym: other_sym,
-                arity: other_arity,
-                ..
-            },
-        ) => sym == other_sym && arity == other_arity,
-        _ => false,
     }
 }
 

@@ -1,5 +1,5 @@
 -- Comparing two terms argument by argument.
-use Rattle.std.proofs.Common.{◌≡◌, ℕ, ◌+◌, ◌<◌, ◌≤◌, Bool, true, false, List, [], ◌∷◌, ◌++◌, length, take, drop, get_or, refl, sym, ◌∙◌, ap, subst, arith, append_assoc, length-append, Some, Ok, Err}
+use Rattle.std.proofs.Common.{◌≡◌, ℕ, ◌+◌, ◌<◌, ◌≤◌, Bool, true, false, List, [], ◌∷◌, ◌++◌, length, take, drop, get_or, refl, sym, ◌∙◌, ap, subst, arith, append_assoc, length-append, Ok, Err}
 use Rattle.std.proofs.Math.ListN.{drop_of_length-le}
 use Rattle.std.proofs.Common.{add-zero}
 use Rattle.std.proofs.lemmas.List.{drop-drop, get_or-drop, length-drop, drop-append-le}
@@ -18,7 +18,8 @@ use Rattle.si_unify.specs.declared.spots.Spot.{Spot}
 use Rattle.si_unify.specs.declared.spots.SpotPair.{SpotPair}
 use Rattle.si_unify.specs.declared.spots.Question.{Question}
 use Rattle.si_unify.specs.Solving.{Pairs, IsSolvedBy}
-use Rattle.si_unify.specs.Spots.{text, StandsAt, IsSpot, IsSubterm, at_spot, IsEnd, ComesTo, common_arity, IsLegal, MakesEqual, MakesEqualUpTo, IsApart, ArePairs, IsGoingOn, HasMet, HasCompared}
+use Rattle.si_unify.specs.Spots.{text, StandsAt, IsSpot, IsSubterm, at_spot, IsEnd, ComesTo, IsLegal, MakesEqual, MakesEqualUpTo, IsApart, ArePairs, IsGoingOn, HasMet, HasCompared}
+use Rattle.si_unify.specs.Symbols.{same_symbol}
 use Rattle.si_unify.proofs.Places.{at_unique, first_cell, first_of}
 use Rattle.si_unify.proofs.Binding.{stands_still, stood, solved_front, cut_stands}
 use Rattle.si_unify.proofs.Pieces.{handed_on}
@@ -205,16 +206,16 @@ right_inside q old pairs old_keys keys pair left right i j h less =
     omega (arith, ap length e, length-drop j right, length-append (cells_of n.right) (cells_of_all n.right_others), length-cells_of n.right, size_some n.right)
 
 pub comparing_descends :
-    (q : Question) (old pairs : Pairs) (old_keys keys : List SpotPair) (pair : SpotPair) (left right : List Cell) (i j arity : ℕ) (d : Cell)
+    (q : Question) (old pairs : Pairs) (old_keys keys : List SpotPair) (pair : SpotPair) (left right : List Cell) (i j : ℕ) (d : Cell)
     → IsComparing q old pairs old_keys keys pair left right i j
     → i < length left
-    → common_arity (get_or left i d) (get_or right j d) ≡ Some arity
+    → same_symbol (get_or left i d) (get_or right j d) ≡ true
     → IsComparing q old pairs old_keys keys pair left right (i + 1) (j + 1)
-comparing_descends q old pairs old_keys keys pair left right i j arity d h less common =
+comparing_descends q old pairs old_keys keys pair left right i j d h less common =
     let n = next_at q old pairs old_keys keys pair left right i j h less in
     let left_e = rest_cells left i h.left_rest n.left_others n.left h.left_cells n.left_is in
     let right_e = rest_cells right j h.right_rest n.right_others n.right h.right_cells n.right_is in
-    let head = have_head n.left n.right arity (rw (cell_of left i n.left _ d left_e, cell_of right j n.right _ d right_e) at common) in
+    let head = have_head n.left n.right (rw (cell_of left i n.left _ d left_e, cell_of right j n.right _ d right_e) at common) in
     let left_is : h.left_rest ≡ terms.more (terms.app head.symbol head.left_arguments) n.left_others = n.left_is ∙ ap (λ t. terms.more t n.left_others) head.left in
     let right_is : h.right_rest ≡ terms.more (terms.app head.symbol head.right_arguments) n.right_others = n.right_is ∙ ap (λ t. terms.more t n.right_others) head.right in
     let left_sound : AreSound (terms.more (terms.app head.symbol head.left_arguments) n.left_others) = subst AreSound left_is h.left_sound in

@@ -17,7 +17,8 @@ use Rattle.si_unify.specs.declared.spots.SpotPair.{SpotPair}
 use Rattle.si_unify.specs.declared.spots.Question.{Question}
 use Rattle.si_unify.proofs.Pieces.{handed_still, handed_piece, text_handed_in}
 use Rattle.si_unify.specs.Solving.{IsPieceOf, Pairs, slot_count, slot_of, variable_of, is_frozen, CellIsInRange, AreInRange}
-use Rattle.si_unify.specs.Spots.{text, StandsAt, IsSpot, IsEnd, cell_at, slot_at, cell_slot, free_slot, same_slot, common_arity, IsLegal, MakesEqual, MakesEqualUpTo, IsApart, ArePairs, Meets, Refutes, IsGoingOn, IsUnbound, Binds, HasMet}
+use Rattle.si_unify.specs.Spots.{text, StandsAt, IsSpot, IsEnd, cell_at, slot_at, cell_slot, free_slot, same_slot, IsLegal, MakesEqual, MakesEqualUpTo, IsApart, ArePairs, Meets, Refutes, IsGoingOn, IsUnbound, Binds, HasMet}
+use Rattle.si_unify.specs.Symbols.{same_symbol}
 use Rattle.si_unify.proofs.Places.{at_unique, first_cell, cell-at, inside, in_range-at, in_range-variable, variable_of-slot_of, text_in_range, slot_variable}
 use Rattle.si_unify.proofs.Chains.{no_cell}
 use Rattle.si_unify.proofs.Binding.{IsNot, CanBind, slot_below, binding_meets, binding_meets_right, binding_goes_on}
@@ -223,36 +224,34 @@ frozen_at q pairs spot x stands e = frozen_variable q.slots x (ap (free_slot q.s
 same_number : (m n : ℕ) → m ≡ n → (m == n) ≡ true
 same_number m n e = eq-eqb m n e
 
-pub both_heads : (s r : Symbol) (m n : ℕ) → s ≡ r → common_arity (cell.App s.number s.arity m) (cell.App r.number r.arity n) ≡ Some s.arity
+pub both_heads : (s r : Symbol) (m n : ℕ) → s ≡ r → same_symbol (cell.App s.number s.arity m) (cell.App r.number r.arity n) ≡ true
 both_heads s r m n e = rw (eq-eqb s.number r.number (ap (λ a. a.number) e), eq-eqb s.arity r.arity (ap (λ a. a.arity) e)) refl
 
-pub record HaveHead (t u : Term) (arity : ℕ) : Type 0 where
+pub record HaveHead (t u : Term) : Type 0 where
   pub symbol : Symbol
   pub left_arguments : Terms
   pub right_arguments : Terms
   pub left : t ≡ terms.app symbol left_arguments
   pub right : u ≡ terms.app symbol right_arguments
-  pub arity_is : symbol.arity ≡ arity
 
-no_common : (x : Variable) (c : Cell) (a : ℕ) {P : Type 0} → common_arity (variable_cell x) c ≡ Some a → P
-no_common (query n) c a e = cc
-no_common (entry n) c a e = cc
-no_common (ind n) c a e = cc
+no_symbol : (x : Variable) (c : Cell) {P : Type 0} → same_symbol (variable_cell x) c ≡ true → P
+no_symbol (query n) c e = cc
+no_symbol (entry n) c e = cc
+no_symbol (ind n) c e = cc
 
-no_common_right : (s : Symbol) (m : ℕ) (x : Variable) (a : ℕ) {P : Type 0} → common_arity (cell.App s.number s.arity m) (variable_cell x) ≡ Some a → P
-no_common_right s m (query n) a e = cc
-no_common_right s m (entry n) a e = cc
-no_common_right s m (ind n) a e = cc
+no_symbol_right : (s : Symbol) (m : ℕ) (x : Variable) {P : Type 0} → same_symbol (cell.App s.number s.arity m) (variable_cell x) ≡ true → P
+no_symbol_right s m (query n) e = cc
+no_symbol_right s m (entry n) e = cc
+no_symbol_right s m (ind n) e = cc
 
-pub have_head : (t u : Term) (arity : ℕ) → common_arity (first_cell t) (first_cell u) ≡ Some arity → HaveHead t u arity
-have_head (terms.var x) u arity e = no_common x (first_cell u) arity e
-have_head (terms.app s ts) (terms.var y) arity e = no_common_right s (1 + terms.sizes ts) y arity e
-have_head (terms.app s ts) (terms.app r us) arity e =
+pub have_head : (t u : Term) → same_symbol (first_cell t) (first_cell u) ≡ true → HaveHead t u
+have_head (terms.var x) u e = no_symbol x (first_cell u) e
+have_head (terms.app s ts) (terms.var y) e = no_symbol_right s (1 + terms.sizes ts) y e
+have_head (terms.app s ts) (terms.app r us) e =
     elim (eqb_tells s.number r.number) [
       | inl h ↦
           elim (eqb_tells s.arity r.arity) [
             | inl k ↦
-                let here : Some s.arity ≡ Some arity = rw (h.0, k.0) at e in
                 let make : ℕ → ℕ → Symbol = λ a b. record { number = a; arity = b } in
                 let same : r ≡ s = ap (λ a. make a r.arity) (sym h.1) ∙ ap (make s.number) (sym k.1) in
                 record {
@@ -261,14 +260,13 @@ have_head (terms.app s ts) (terms.app r us) arity e =
                   right_arguments = us;
                   left = refl;
                   right = ap (λ p. terms.app p us) same;
-                  arity_is = cc;
                 }
-            | inr k ↦ let bad : None ≡ Some arity = rw (h.0, k.0) at e in cc
+            | inr k ↦ let bad : false ≡ true = rw (h.0, k.0) at e in cc
           ]
-      | inr h ↦ let bad : None ≡ Some arity = rw h.0 at e in cc
+      | inr h ↦ let bad : false ≡ true = rw h.0 at e in cc
     ]
 
-clash : (q : Question) (pairs : Pairs) (left right : Spot) (t u : Term) → same_slot (slot_at q pairs left) (slot_at q pairs right) ≡ false → StandsAt q pairs left t → StandsAt q pairs right u → free_slot q.slots (cell_at q pairs left) ≡ None → free_slot q.slots (cell_at q pairs right) ≡ None → common_arity (first_cell t) (first_cell u) ≡ None → Refutes q pairs t u
+clash : (q : Question) (pairs : Pairs) (left right : Spot) (t u : Term) → same_slot (slot_at q pairs left) (slot_at q pairs right) ≡ false → StandsAt q pairs left t → StandsAt q pairs right u → free_slot q.slots (cell_at q pairs left) ≡ None → free_slot q.slots (cell_at q pairs right) ≡ None → same_symbol (first_cell t) (first_cell u) ≡ false → Refutes q pairs t u
 clash q pairs left right (terms.var x) (terms.var y) differ left_stands right_stands left_fixed right_fixed none f solved e =
     let fx = solved.frozen x (frozen_at q pairs left x left_stands left_fixed) in
     let fy = solved.frozen y (frozen_at q pairs right y right_stands right_fixed) in
@@ -289,7 +287,7 @@ clash q pairs left right (terms.app s ts) (terms.var y) differ left_stands right
     cc
 clash q pairs left right (terms.app s ts) (terms.app r us) differ left_stands right_stands left_fixed right_fixed none f solved e =
     let same : s ≡ r = cc in
-    let bad : Some s.arity ≡ None = sym (both_heads s r (1 + terms.sizes ts) (1 + terms.sizes us) same) ∙ none in
+    let bad : true ≡ false = sym (both_heads s r (1 + terms.sizes ts) (1 + terms.sizes us) same) ∙ none in
     cc
 
 pub clash_met :
@@ -297,42 +295,46 @@ pub clash_met :
     → MeetsEnds q pairs keys left right
     → free_slot q.slots (cell_at q pairs left) ≡ None
     → free_slot q.slots (cell_at q pairs right) ≡ None
-    → common_arity (cell_at q pairs left) (cell_at q pairs right) ≡ None
+    → same_symbol (cell_at q pairs left) (cell_at q pairs right) ≡ false
     → HasMet q pairs new keys new_keys left right false
 clash_met q pairs new keys new_keys left right h left_fixed right_fixed none t u left_stands right_stands =
     clash q pairs left right t u h.differ left_stands right_stands left_fixed right_fixed
     (rw (first_at q pairs left t left_stands, first_at q pairs right u right_stands) at none)
 
-common_at : (q : Question) (pairs : Pairs) (left right : Spot) (t u : Term) (arity : ℕ) → StandsAt q pairs left t → StandsAt q pairs right u → common_arity (cell_at q pairs left) (cell_at q pairs right) ≡ Some arity → HaveHead t u arity
-common_at q pairs left right t u arity left_stands right_stands e =
-    have_head t u arity (rw (first_at q pairs left t left_stands, first_at q pairs right u right_stands) at e)
+head_at : (q : Question) (pairs : Pairs) (left right : Spot) (t u : Term) → StandsAt q pairs left t → StandsAt q pairs right u → same_symbol (cell_at q pairs left) (cell_at q pairs right) ≡ true → HaveHead t u
+head_at q pairs left right t u left_stands right_stands e =
+    have_head t u (rw (first_at q pairs left t left_stands, first_at q pairs right u right_stands) at e)
 
 -- a constant on both sides
 pub constant_met :
-    (q : Question) (pairs : Pairs) (keys : List SpotPair) (left right : Spot)
+    (q : Question) (pairs : Pairs) (keys : List SpotPair) (left right : Spot) (number len : ℕ)
     → MeetsEnds q pairs keys left right
-    → common_arity (cell_at q pairs left) (cell_at q pairs right) ≡ Some 0
+    → same_symbol (cell_at q pairs left) (cell_at q pairs right) ≡ true
+    → cell_at q pairs left ≡ cell.App number 0 len
     → HasMet q pairs pairs keys keys left right true
-constant_met q pairs keys left right h e = (
+constant_met q pairs keys left right number len h e constant = (
   goes_nowhere q pairs keys h.legal h.apart,
   λ t u left_stands right_stands.
-      let head = common_at q pairs left right t u 0 left_stands right_stands e in
+      let head = head_at q pairs left right t u left_stands right_stands e in
+      let cells : cell.App head.symbol.number head.symbol.arity (1 + terms.sizes head.left_arguments) ≡ cell.App number 0 len =
+      sym (first_at q pairs left t left_stands ∙ ap first_cell head.left) ∙ constant in
+      let none : head.symbol.arity ≡ 0 = cc in
       let left_sound : IsSound (terms.app head.symbol head.left_arguments) = subst IsSound head.left left_stands.sound in
       let right_sound : IsSound (terms.app head.symbol head.right_arguments) = subst IsSound head.right right_stands.sound in
-      let left_none = no_arguments head.left_arguments (left_sound.0 ∙ head.arity_is) in
-      let right_none = no_arguments head.right_arguments (right_sound.0 ∙ head.arity_is) in
+      let left_none = no_arguments head.left_arguments (left_sound.0 ∙ none) in
+      let right_none = no_arguments head.right_arguments (right_sound.0 ∙ none) in
       equal_meets q pairs keys t u (head.left ∙ ap (terms.app head.symbol) (left_none ∙ sym right_none) ∙ sym head.right),
 )
 
 -- two spots whose cells have the same symbol
 pub apart_at :
-    (q : Question) (pairs : Pairs) (left right : Spot) (arity : ℕ)
+    (q : Question) (pairs : Pairs) (left right : Spot)
     → IsSpot q pairs left
     → IsSpot q pairs right
-    → common_arity (cell_at q pairs left) (cell_at q pairs right) ≡ Some arity
+    → same_symbol (cell_at q pairs left) (cell_at q pairs right) ≡ true
     → IsApart q pairs (record { left = left; right = right })
-apart_at q pairs left right arity t u e =
-    let head = common_at q pairs left right t.0 u.0 arity t.1 u.1 e in
+apart_at q pairs left right t u e =
+    let head = head_at q pairs left right t.0 u.0 t.1 u.1 e in
     record {
       symbol = head.symbol;
       left_arguments = head.left_arguments;
@@ -343,15 +345,15 @@ apart_at q pairs left right arity t u e =
 
 -- a pair that is to be compared
 pub pair_met :
-    (q : Question) (pairs : Pairs) (keys new_keys : List SpotPair) (left right : Spot) (arity i : ℕ)
+    (q : Question) (pairs : Pairs) (keys new_keys : List SpotPair) (left right : Spot) (i : ℕ)
     → MeetsEnds q pairs keys left right
-    → common_arity (cell_at q pairs left) (cell_at q pairs right) ≡ Some arity
+    → same_symbol (cell_at q pairs left) (cell_at q pairs right) ≡ true
     → (new_keys ≡ keys) ⊎ (new_keys ≡ keys ++ record { left = left; right = right } ∷ [])
     → slice_get new_keys i ≡ Some (record { left = left; right = right })
     → HasMet q pairs pairs keys new_keys left right true
-pair_met q pairs keys new_keys left right arity i h e grown stored =
+pair_met q pairs keys new_keys left right i h e grown stored =
     let pair : SpotPair = record { left = left; right = right } in
-    let here : IsApart q pairs pair = apart_at q pairs left right arity h.left_end.spot_is h.right_end.spot_is e in (
+    let here : IsApart q pairs pair = apart_at q pairs left right h.left_end.spot_is h.right_end.spot_is e in (
       record {
         grows = ([], sym (append-nil pairs));
         keys_grow = elim grown [ inl g ↦ ([], g ∙ sym (append-nil keys)) | inr g ↦ (pair ∷ [], g) ];
@@ -384,8 +386,8 @@ pub same_told : (slots : Slots) (a b left right : Cell) (o p : Option ℕ) (r : 
 same_told slots a b left right o p r o_is p_is a_is b_is e =
     sym (e ∙ ap (λ x. same_slot x p) (o_is ∙ ap (cell_slot slots) a_is) ∙ ap (same_slot (cell_slot slots left)) (p_is ∙ ap (cell_slot slots) b_is))
 
-pub common_told : (a b left right : Cell) (o : Option ℕ) → a ≡ left → b ≡ right → o ≡ common_arity a b → common_arity left right ≡ o
-common_told a b left right o a_is b_is e = sym (e ∙ ap (λ x. common_arity x b) a_is ∙ ap (common_arity left) b_is)
+pub symbols_told : (a b left right : Cell) (r : Bool) → a ≡ left → b ≡ right → r ≡ same_symbol a b → same_symbol left right ≡ r
+symbols_told a b left right r a_is b_is e = sym (e ∙ ap (λ x. same_symbol x b) a_is ∙ ap (same_symbol left) b_is)
 
 -- ---- what the set of pairs tells
 same_spot : (a b : Spot) → (a.base == b.base && a.at == b.at) ≡ true → a ≡ b

@@ -1,4 +1,5 @@
 pub mod Solving
+pub mod Symbols
 pub mod Spots
 pub mod Circles
 pub mod States

@@ -210,11 +210,6 @@ abbrev pub same_slot : Option ℕ → Option ℕ → Bool
 same_slot (Some m) (Some n) = m == n
 same_slot _ _ = false
 
--- the arity of the symbol that both cells have
-abbrev pub common_arity : Cell → Cell → Option ℕ
-common_arity (cell.App s a m) (cell.App r b n) = if s == r && a == b then Some a else None
-common_arity _ _ = None
-
 -- the outcome of meeting: the two spots' terms are made equal, or none makes them equal
 abbrev pub HasMet : Question → Pairs → Pairs → List SpotPair → List SpotPair → Spot → Spot
     → Bool → Type 0

@@ -4,8 +4,8 @@ ghost use Rattle.si_defs.specs.Substitutions.{Grows};
 ghost use Rattle.si_unify.specs.Spots.{left_spot, right_spot, spots_of};
 ghost use Rattle.si_unify.specs.Unifying.{HasSubterm, AreApart, IsUnderway, SpotsLackRoom, KeepsQuestion, MakesMeet, MakesCompared, MakesClosed};
 
-use crate::equations::common_arity;
 use crate::spots::{Spot, Subterm};
+use crate::symbols::have_same_symbol;
 use crate::unifier::Unifier;
 use si_flat::sub;
 use std::alloc::AllocError;
@@ -28,33 +28,30 @@ impl<'s, 'a> Unifier<'s, 'a> {
         let mut i = 1;
         let mut j = 1;
         while i < left.cells.len() {
-            match common_arity(left.cells[i], right.cells[j]) {
-                Some(_) => {
-                    i += 1;
-                    j += 1;
-                }
-                None => {
-                    let left_part = Subterm {
-                        spot: Spot {
-                            base: left.spot.base,
-                            at: left.spot.at + i,
-                        },
-                        cells: sub(left.cells, i),
-                    };
-                    let right_part = Subterm {
-                        spot: Spot {
-                            base: right.spot.base,
-                            at: right.spot.at + j,
-                        },
-                        cells: sub(right.cells, j),
-                    };
-                    if !self.meet(left_part, right_part)? {
-                        return Ok(false);
-                    }
-                    i += left_part.cells.len();
-                    j += right_part.cells.len();
-                }
+            if have_same_symbol(left.cells[i], right.cells[j]) {
+                i += 1;
+                j += 1;
+                continue;
             }
+            let left_part = Subterm {
+                spot: Spot {
+                    base: left.spot.base,
+                    at: left.spot.at + i,
+                },
+                cells: sub(left.cells, i),
+            };
+            let right_part = Subterm {
+                spot: Spot {
+                    base: right.spot.base,
+                    at: right.spot.at + j,
+                },
+                cells: sub(right.cells, j),
+            };
+            if !self.meet(left_part, right_part)? {
+                return Ok(false);
+            }
+            i += left_part.cells.len();
+            j += right_part.cells.len();
         }
         Ok(true)
     }
@@ -84,10 +81,10 @@ impl<'s, 'a> Unifier<'s, 'a> {
             },
             cells: self.question.right,
         };
-        match common_arity(left.cells[0], right.cells[0]) {
-            None => self.meet(left, right),
-            Some(_) => self.compare(left, right),
+        if have_same_symbol(left.cells[0], right.cells[0]) {
+            return self.compare(left, right);
         }
+        self.meet(left, right)
     }
 
     // Compares the pairs, and those that come up, until none is left.

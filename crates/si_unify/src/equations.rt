@@ -3,12 +3,13 @@ ghost use Rattle.std.specs.Prelude.{◌≡◌, ◌<◌, ◌≤◌, false, Ok, If
 ghost use Rattle.si_unify.specs.Heights.{is_right_lower};
 ghost use Rattle.si_unify.specs.Rooms.{spot_pairs_room};
 ghost use Rattle.si_unify.specs.Solving.{slot_count};
-ghost use Rattle.si_unify.specs.Spots.{same_slot, common_arity, IsAdded, HasNoRoomFor};
+ghost use Rattle.si_unify.specs.Spots.{same_slot, IsAdded, HasNoRoomFor};
 ghost use Rattle.si_unify.specs.Unifying.{HasSubterm, HasEnd, IsUnderway, SpotsLackRoom, KeepsQuestion, MakesMeet};
 
 use crate::heights::Heights;
 use crate::slots::Slots;
 use crate::spots::{SpotPair, Subterm};
+use crate::symbols::have_same_symbol;
 use crate::unifier::Unifier;
 use indexmap::IndexSet;
 use si_flat::Cell;
@@ -21,23 +22,6 @@ fn same_slot(left: Option<usize>, right: Option<usize>) -> bool
     match (left, right) {
         (Some(left), Some(right)) => left == right,
         _ => false,
-    }
-}
-
-// The arity of the symbol that both cells have.
-pub(crate) fn common_arity(left: Cell, right: Cell) -> Option<u32>
-    ensures { result ≡ common_arity left right }
-{
-    match (left, right) {
-        (
-            Cell::App { sym, arity, .. },
-            Cell::App {
-                sym: other_sym,
-                arity: other_arity,
-                ..
-            },
-        ) if sym == other_sym && arity == other_arity => Some(arity),
-        _ => None,
     }
 }
 
@@ -112,18 +96,18 @@ impl<'s, 'a> Unifier<'s, 'a> {
             self.trail.bind(slot, left.cells);
             return Ok(true);
         }
-        match common_arity(left_cell, right_cell) {
-            None => Ok(false),
-            Some(0) => Ok(true),
-            Some(_) => {
-                let pair = SpotPair {
-                    left: left.spot,
-                    right: right.spot,
-                };
-                add_pair(self.keys, pair)?;
-                Ok(true)
-            }
+        if !have_same_symbol(left_cell, right_cell) {
+            return Ok(false);
         }
+        if let Cell::App { arity: 0, .. } = left_cell {
+            return Ok(true);
+        }
+        let pair = SpotPair {
+            left: left.spot,
+            right: right.spot,
+        };
+        add_pair(self.keys, pair)?;
+        Ok(true)
     }
 
     // Makes two spots equal.

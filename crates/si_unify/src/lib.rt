@@ -14,10 +14,12 @@ mod slots;
 mod solver;
 mod spots;
 mod states;
+mod symbols;
 mod unbound;
 mod unifier;
 
 pub use scratch::Scratch;
 pub use slots::Slots;
 pub use solver::{solve, solve_with};
+pub use symbols::have_same_symbol;
 pub use unbound::are_unbound;

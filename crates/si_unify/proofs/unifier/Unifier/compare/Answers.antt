@@ -1,4 +1,4 @@
-use Rattle.std.proofs.Common.{◌+◌, ◌-◌, ◌<◌, true, false, length, sym, subst, arith}
+use Rattle.std.proofs.Common.{◌+◌, ◌-◌, ◌<◌, true, false, length, sym, ◌∙◌, subst, arith}
 use Rattle.si_unify.specs.Spots.{spots_of}
 use Rattle.si_unify.specs.Unifying.{SpotsLackRoom, MakesMeet}
 use Rattle.si_unify.proofs.Chains.{no_cell, head_inside}
@@ -20,14 +20,14 @@ loop-i-init c = record {
 pub bounds-right-j : goal.bounds-right-j
 bounds-right-j c = right_inside _ _ _ _ _ _ _ _ _ _ c.loop-i.invariant.comparing_on c.loop-i-test.true
 
-pub loop-i-preserved-in-Some : goal.loop-i-preserved-in-Some
-loop-i-preserved-in-Some c = record {
-  comparing_on = comparing_descends _ _ _ _ _ _ _ _ _ _ c.in-Some.field-0 no_cell c.loop-i.invariant.comparing_on c.loop-i-test.true (sym c.in-Some.ensures);
+pub loop-i-preserved-then-have_same_symbol : goal.loop-i-preserved-then-have_same_symbol
+loop-i-preserved-then-have_same_symbol c = record {
+  comparing_on = comparing_descends _ _ _ _ _ _ _ _ _ _ no_cell c.loop-i.invariant.comparing_on c.loop-i-test.true (sym c.have_same_symbol.ensures ∙ c.if-have_same_symbol.true);
   going_on = c.loop-i.invariant.going_on;
 }
 
-pub sub-requires-in-None-clause-inside : goal.sub-requires-in-None-clause-inside
-sub-requires-in-None-clause-inside c = right_inside _ _ _ _ _ _ _ _ _ _ c.loop-i.invariant.comparing_on c.loop-i-test.true
+pub sub-requires-in-loop-i-clause-inside : goal.sub-requires-in-loop-i-clause-inside
+sub-requires-in-loop-i-clause-inside c = right_inside _ _ _ _ _ _ _ _ _ _ c.loop-i.invariant.comparing_on c.loop-i-test.true
 
 pub meet-requires-clause-underway : goal.meet-requires-clause-underway
 meet-requires-clause-underway c =
@@ -41,7 +41,7 @@ meet-requires-clause-left c =
 pub meet-requires-clause-right : goal.meet-requires-clause-right
 meet-requires-clause-right c =
     subterm_still c.args.self.now c.loop-i.self c.loop-i.invariant.going_on _
-    (right_part _ _ _ _ _ _ _ _ _ _ c.sub-in-None.result c.loop-i.invariant.comparing_on c.loop-i-test.true c.sub-in-None.ensures.place c.sub-in-None.ensures.whole)
+    (right_part _ _ _ _ _ _ _ _ _ _ c.sub-in-loop-i.result c.loop-i.invariant.comparing_on c.loop-i-test.true c.sub-in-loop-i.ensures.place c.sub-in-loop-i.ensures.whole)
 
 pub returns-then-not-branch-clause-compared : goal.returns-then-not-branch-clause-compared
 returns-then-not-branch-clause-compared c =
@@ -53,21 +53,13 @@ returns-then-not-branch-clause-compared c =
     subst
     (MakesMeet c.loop-i.self c.meet.new.self (moved c.args.left.spot c.loop-i.i) (moved c.args.right.spot c.loop-i.j))
     c.if-not-branch.true
-    c.in_ok-meet-in-None.ensures.met
+    c.in_ok-meet.ensures.met
     )
     )
 
 pub returns-then-not-branch-clause-keeps_question : goal.returns-then-not-branch-clause-keeps_question
 returns-then-not-branch-clause-keeps_question c =
-    goes_further _ _ _ c.loop-i.invariant.going_on c.in_ok-meet-in-None.ensures.keeps_question
-
-pub overflow_add-i-in-None : goal.overflow_add-i-in-None
-overflow_add-i-in-None c = omega (arith, piece_ends _ _ _ c.sub.ensures.place c.loop-i-test.true, c.requires.left_small)
-
-pub overflow_add-j-in-None : goal.overflow_add-j-in-None
-overflow_add-j-in-None c =
-    let less = right_inside _ _ _ _ _ _ _ _ _ _ c.loop-i.invariant.comparing_on c.loop-i-test.true in
-    omega (arith, piece_ends _ _ _ c.sub-in-None.ensures.place less, c.requires.right_small)
+    goes_further _ _ _ c.loop-i.invariant.going_on c.in_ok-meet.ensures.keeps_question
 
 pub loop-i-smaller : goal.loop-i-smaller
 loop-i-smaller c =
@@ -81,27 +73,27 @@ pub loop-i-preserved : goal.loop-i-preserved
 loop-i-preserved c = record {
   comparing_on =
       comparing_goes_on c.args.self.now.question c.args.self.now.trail.now.pairs c.loop-i.self.trail.now.pairs c.meet.new.self.trail.now.pairs c.args.self.now.keys.now.keys c.loop-i.self.keys.now.keys c.meet.new.self.keys.now.keys (spots_of c.args.left c.args.right) c.args.left.cells.now c.args.right.cells.now c.loop-i.i c.loop-i.j
-      (length c.sub.result.now) (length c.sub-in-None.result.now)
+      (length c.sub.result.now) (length c.sub-in-loop-i.result.now)
       c.loop-i.invariant.comparing_on c.loop-i-test.true
       (left_size _ _ _ _ _ _ _ _ _ _ _ c.loop-i.invariant.comparing_on c.loop-i-test.true c.sub.ensures.place c.sub.ensures.whole)
-      (right_size _ _ _ _ _ _ _ _ _ _ _ c.loop-i.invariant.comparing_on c.loop-i-test.true c.sub-in-None.ensures.place c.sub-in-None.ensures.whole)
+      (right_size _ _ _ _ _ _ _ _ _ _ _ c.loop-i.invariant.comparing_on c.loop-i-test.true c.sub-in-loop-i.ensures.place c.sub-in-loop-i.ensures.whole)
       (
       met_by c.args.self.now c.loop-i.self c.loop-i.invariant.going_on c.meet.new.self (moved c.args.left.spot c.loop-i.i) (moved c.args.right.spot c.loop-i.j) true
       (
       subst
       (MakesMeet c.loop-i.self c.meet.new.self (moved c.args.left.spot c.loop-i.i) (moved c.args.right.spot c.loop-i.j))
       c.if-not-branch.false
-      c.in_ok-meet-in-None.ensures.met
+      c.in_ok-meet.ensures.met
       )
       );
-  going_on = goes_further _ _ _ c.loop-i.invariant.going_on c.in_ok-meet-in-None.ensures.keeps_question;
+  going_on = goes_further _ _ _ c.loop-i.invariant.going_on c.in_ok-meet.ensures.keeps_question;
 }
 
 pub returns-clause-compared : goal.returns-clause-compared
 returns-clause-compared c = comparing_ends _ _ _ _ _ _ _ _ _ _ c.loop-i.invariant.comparing_on c.loop-i-test.false
 
-pub returns-in_err-meet-in-None-clause-full : goal.returns-in_err-meet-in-None-clause-full
-returns-in_err-meet-in-None-clause-full c =
+pub returns-in_err-meet-clause-full : goal.returns-in_err-meet-clause-full
+returns-in_err-meet-clause-full c =
     let refused : SpotsLackRoom c.args.self.now = λ n room.
-    c.in_err-meet-in-None.ensures.full n (room_still c.args.self.now c.loop-i.self c.loop-i.invariant.going_on n room c.loop-i.invariant.comparing_on.going) in
+    c.in_err-meet.ensures.full n (room_still c.args.self.now c.loop-i.self c.loop-i.invariant.going_on n room c.loop-i.invariant.comparing_on.going) in
     on_err _ refused

@@ -1,4 +1,5 @@
-use Rattle.std.proofs.Common.{◌<◌, [], Some, sym, ap, ◌∙◌, arith}
+use Rattle.std.proofs.Common.{◌<◌, [], sym, ap, ◌∙◌, arith}
+use Rattle.si_flat.specs.declared.Cell.TheVariants.{App}
 use Rattle.si_unify.specs.Solving.{slot_count}
 use Rattle.si_term.proofs.Results.{on_err}
 use Rattle.si_unify.specs.Rooms.{spot_pairs_room}
@@ -6,7 +7,7 @@ use Rattle.si_unify.specs.Spots.{free_slot, spots_of}
 use Rattle.si_unify.specs.Unifying.{SpotsLackRoom}
 use Rattle.si_unify.proofs.Chains.{head_inside, head_is}
 use Rattle.si_unify.proofs.Binding.{binds_subterm}
-use Rattle.si_unify.proofs.Meeting.{same_variable_met, left_bound, right_bound, free_below, clash_met, constant_met, pair_met, same_told, common_told}
+use Rattle.si_unify.proofs.Meeting.{same_variable_met, left_bound, right_bound, free_below, clash_met, constant_met, pair_met, same_told, symbols_told}
 use Rattle.si_unify.proofs.PairLaws.{pair_refused}
 use Rattle.si_unify.proofs.unifier.Unifier.meet_ends.Goals as goal
 
@@ -84,8 +85,8 @@ returns-in-Some-right_free-clause-met c =
     (sym (c.in-Some-right_free.ensures ∙ ap (free_slot c.args.self.now.question.slots) (head_is _ _ _ c.requires.right)))
     (binds_subterm _ _ _ _ _ c.requires.underway.legal c.requires.left c.bind-in-Some-right_free.ensures.pairs)
 
-pub returns-in-None-clause-met : goal.returns-in-None-clause-met
-returns-in-None-clause-met c =
+pub returns-then-not-have_same_symbol-clause-met : goal.returns-then-not-have_same_symbol-clause-met
+returns-then-not-have_same_symbol-clause-met c =
     clash_met _ _ c.args.self.now.trail.now.pairs _ [] _ _
     (
     record {
@@ -98,11 +99,11 @@ returns-in-None-clause-met c =
     )
     (sym (c.in_default-left_free.ensures ∙ ap (free_slot c.args.self.now.question.slots) (head_is _ _ _ c.requires.left)))
     (sym (c.in_default-right_free.ensures ∙ ap (free_slot c.args.self.now.question.slots) (head_is _ _ _ c.requires.right)))
-    (common_told _ _ _ _ _ (head_is _ _ _ c.requires.left) (head_is _ _ _ c.requires.right) c.in-None.ensures)
+    (symbols_told _ _ _ _ _ (head_is _ _ _ c.requires.left) (head_is _ _ _ c.requires.right) c.if-not-have_same_symbol.ensures)
 
-pub returns-in-Some-eq0-clause-met : goal.returns-in-Some-eq0-clause-met
-returns-in-Some-eq0-clause-met c =
-    constant_met _ _ _ _ _
+pub returns-in-App-default-eq0-default-clause-met : goal.returns-in-App-default-eq0-default-clause-met
+returns-in-App-default-eq0-default-clause-met c =
+    constant_met _ _ _ _ _ _ _
     (
     record {
       legal = c.requires.underway.legal;
@@ -112,16 +113,17 @@ returns-in-Some-eq0-clause-met c =
       differ = same_told c.args.self.now.question.slots _ _ _ _ _ _ _ c.slot_of.ensures c.slot_of-2.ensures (head_is _ _ _ c.requires.left) (head_is _ _ _ c.requires.right) c.if-same_slot.ensures;
     }
     )
-    (common_told _ _ _ _ _ (head_is _ _ _ c.requires.left) (head_is _ _ _ c.requires.right) c.in-Some-eq0.ensures ∙ ap Some c.in-Some-eq0.field-0-test)
+    (symbols_told _ _ _ _ _ (head_is _ _ _ c.requires.left) (head_is _ _ _ c.requires.right) c.if-not-have_same_symbol.ensures)
+    (sym (head_is _ _ _ c.requires.left) ∙ c.in-App-default-eq0-default.is ∙ ap (λ n. App c.in-App-default-eq0-default.sym n c.in-App-default-eq0-default.len) (sym c.in-App-default-eq0-default.arity-is ∙ c.in-App-default-eq0-default.arity-test))
 
 pub returns-in_err-turns-clause-full : goal.returns-in_err-turns-clause-full
 returns-in_err-turns-clause-full c =
     let refused : SpotsLackRoom c.args.self.now = λ n room. omega (arith, room.heights, c.in_err-turns.ensures.full) in on_err _ refused
 
-pub returns-in_ok-add_pair-in-Some-common_arity-clause-met : goal.returns-in_ok-add_pair-in-Some-common_arity-clause-met
-returns-in_ok-add_pair-in-Some-common_arity-clause-met c =
-    let added = c.in_ok-add_pair-in-Some-common_arity.ensures.added in
-    pair_met _ _ _ _ _ _ _ added.place
+pub returns-clause-met : goal.returns-clause-met
+returns-clause-met c =
+    let added = c.in_ok-add_pair.ensures.added in
+    pair_met _ _ _ _ _ _ added.place
     (
     record {
       legal = c.requires.underway.legal;
@@ -131,14 +133,14 @@ returns-in_ok-add_pair-in-Some-common_arity-clause-met c =
       differ = same_told c.args.self.now.question.slots _ _ _ _ _ _ _ c.slot_of.ensures c.slot_of-2.ensures (head_is _ _ _ c.requires.left) (head_is _ _ _ c.requires.right) c.if-same_slot.ensures;
     }
     )
-    (common_told _ _ _ _ _ (head_is _ _ _ c.requires.left) (head_is _ _ _ c.requires.right) c.in-Some-common_arity.ensures)
+    (symbols_told _ _ _ _ _ (head_is _ _ _ c.requires.left) (head_is _ _ _ c.requires.right) c.if-not-have_same_symbol.ensures)
     added.more
     added.there
 
-pub returns-in_err-add_pair-in-Some-common_arity-clause-full : goal.returns-in_err-add_pair-in-Some-common_arity-clause-full
-returns-in_err-add_pair-in-Some-common_arity-clause-full c =
+pub returns-in_err-add_pair-clause-full : goal.returns-in_err-add_pair-clause-full
+returns-in_err-add_pair-clause-full c =
     let refused : SpotsLackRoom c.args.self.now = λ n room.
     pair_refused c.args.self.now.question c.args.self.now.trail.now.pairs n c.requires.underway.legal room.values room.left room.right
     (spots_of c.args.left c.args.right) c.args.self.now.keys.now.keys (spot_pairs_room c.args.self.now.keys.now)
-    c.requires.left_end.spot_is c.requires.right_end.spot_is c.requires.underway.keys c.in_err-add_pair-in-Some-common_arity.ensures.full room.spot_pairs in
+    c.requires.left_end.spot_is c.requires.right_end.spot_is c.requires.underway.keys c.in_err-add_pair.ensures.full room.spot_pairs in
     on_err _ refused

@@ -15,6 +15,7 @@ use Rattle.si_trail.specs.Trails.{value_at, HasDistinctSlots}
 use Rattle.si_unify.specs.declared.slots.Slots.{Slots}
 use Rattle.si_unify.specs.Solving.{Pairs, variable_of, is_frozen, CellIsInRange, Equalizes, IsBinding, RanksBelow, IsTriangularBy, IsAcyclic, IsSolution}
 use Rattle.si_unify.specs.Spots.{cell_slot}
+use Rattle.si_unify.proofs.Binding.{slot_below}
 use Rattle.si_unify.proofs.Lists.{apart_from}
 use Rattle.si_unify.proofs.Places.{variable_of-slot_of}
 use Rattle.si_unify.proofs.Searching.{ranks_below_cell}
@@ -22,7 +23,6 @@ use Rattle.si_unify.proofs.Solutions.{solved_of_triangular}
 use Rattle.si_fit.proofs.EndLaws.{lent}
 use Rattle.si_legal.proofs.SplitLaws.{occurs, occurs_not}
 use Rattle.si_descend.specs.Subtrees.{EndsFree, AreEndsOf, IsClear, AreClear}
-use Rattle.si_descend.proofs.FreeLaws.{slot_below}
 
 -- ---- pairs after others
 module _ {X : Type 0} where

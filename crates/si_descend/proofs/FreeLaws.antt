@@ -1,5 +1,5 @@
 -- A variable that isn't bound can be anything: some solution makes it this constant.
-use Rattle.std.proofs.Common.{◌≡◌, ◌≢◌, inl, inr, ℕ, ◌+◌, ◌<◌, false, cond, List, [], ◌∷◌, ◌++◌, refl, sym, ◌∙◌, ap, subst, arith, None, Some}
+use Rattle.std.proofs.Common.{◌≡◌, ◌≢◌, inl, inr, ℕ, false, cond, List, [], ◌∷◌, ◌++◌, refl, sym, ◌∙◌, ap, subst, None, Some}
 use Rattle.std.proofs.lemmas.Bool.Decides.{eqb_tells}
 use Rattle.std.specs.List.{AllByRecursion}
 use Rattle.std.specs.Borrow.{Bor}
@@ -8,35 +8,15 @@ use Rattle.si_defs.specs.Terms as terms
 use Rattle.si_defs.specs.Substitutions.{Substitution, image}
 use Rattle.si_defs.proofs.ListLaws.{all_append, all_front, all_back}
 use Rattle.si_flat.specs.declared.Cell.{Cell}
-use Rattle.si_flat.specs.Cells.{Symbol, Variable, query, entry, ind, same_variable, Term, variable_cell, cells_of}
+use Rattle.si_flat.specs.Cells.{Symbol, Variable, same_variable, Term, variable_cell, cells_of}
 use Rattle.si_trail.specs.Trails.{value_at, HasDistinctSlots}
 use Rattle.si_unify.specs.declared.slots.Slots.{Slots}
-use Rattle.si_unify.specs.Solving.{Pairs, slot_count, slot_of, variable_of, is_frozen, IsInRange, Equalizes, IsBinding, RanksBelow, IsAcyclic, IsSolution}
+use Rattle.si_unify.specs.Solving.{Pairs, slot_of, variable_of, is_frozen, IsInRange, Equalizes, IsBinding, RanksBelow, IsAcyclic, IsSolution}
+use Rattle.si_unify.proofs.Binding.{slot_below}
 use Rattle.si_unify.proofs.Lists.{apart_from}
 use Rattle.si_unify.proofs.Places.{variable_of-slot_of}
-use Rattle.si_unify.proofs.Solutions.{lt_tells, solved_of_triangular}
+use Rattle.si_unify.proofs.Solutions.{solved_of_triangular}
 use Rattle.si_fit.proofs.EndLaws.{lent}
-
--- ---- slots
-pub record IsSlot (slots : Slots) (k : ℕ) (x : Variable) : Type 0 where
-  pub range : IsInRange slots x
-  pub slot : slot_of slots x ≡ k
-
-pub is_slot : (slots : Slots) (k : ℕ) → k < slot_count slots → IsSlot slots k (variable_of slots k)
-is_slot slots k less =
-    elim (lt_tells k slots.query) [
-      | inl h ↦ rw h.0 (record { range = h.1; slot = refl })
-      | inr h ↦
-          elim (lt_tells k (slots.query + slots.entry)) [
-            | inl j ↦ rw (h.0, j.0) (record { range = omega (arith, h.1, j.1); slot = omega (arith, h.1) })
-            | inr j ↦ rw (h.0, j.0) (record { range = omega (arith, h.1, j.1, less); slot = omega (arith, h.1, j.1) })
-          ]
-    ]
-
-pub slot_below : (slots : Slots) (x : Variable) → IsInRange slots x → slot_of slots x < slot_count slots
-slot_below slots (query n) h = omega (arith, h)
-slot_below slots (entry n) h = omega (arith, h)
-slot_below slots (ind n) h = omega (arith, h)
 
 -- ---- one binding more
 module _ {T : Type 0} where

@@ -15,6 +15,7 @@ use Rattle.si_trail.specs.Trails.{value_at, HasDistinctSlots}
 use Rattle.si_unify.specs.declared.slots.Slots.{Slots}
 use Rattle.si_unify.specs.Solving.{Pairs, slot_of, variable_of, is_frozen, IsInRange, Equalizes, IsBinding, RanksBelow, IsSolution, AllowsSolving}
 use Rattle.si_unify.proofs.Places.{value_holds, variable_of-slot_of}
+use Rattle.si_unify.proofs.Solutions.{of_slot}
 use Rattle.si_legal.specs.Bindings.{indicator}
 use Rattle.si_legal.specs.Trees.{Tree, Path, IsPath, path_term}
 use Rattle.si_legal.specs.Legal.{IsOpenBelow}
@@ -28,7 +29,7 @@ use Rattle.si_descend.specs.Renaming.{FreezesQuery, bound_variables, IsRenaming}
 use Rattle.si_descend.proofs.Tabulated.{variable_tells, substituted_none}
 use Rattle.si_descend.proofs.Along.{is_step, solves_path_term}
 use Rattle.si_descend.proofs.Openness.{of_kind, entry_kept}
-use Rattle.si_descend.proofs.FreeLaws.{constant, is_free, is_slot, some_solution}
+use Rattle.si_descend.proofs.FreeLaws.{constant, is_free, some_solution}
 
 -- ---- terms
 -- two maps that give the same of a term give the same of its variables
@@ -110,7 +111,7 @@ bound_same slots rank s r x pair h name same =
 
     apart : IsAmong (terms.variables h.binding.whole.0) x → ⊥
     apart i =
-        by x (ap (slot_of slots) (sym name) ∙ (is_slot slots pair.0 h.binding.below).slot)
+        by x (ap (slot_of slots) (sym name) ∙ (of_slot slots pair.0 h.binding.below).slot)
         (cell_holds (RanksBelow slots rank pair.0) h.binding.whole.0 x (subst (AllByRecursion (RanksBelow slots rank pair.0)) h.binding.whole.1.cells_are h.below) i)
 
 constants_differ : constant 0 ≡ constant 1 → ⊥

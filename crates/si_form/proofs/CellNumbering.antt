@@ -1,5 +1,5 @@
 -- The numbers of the terms from a place among cells on.
-use Rattle.std.proofs.Common.{◌≡◌, ℕ, ◌+◌, ◌<◌, ◌≤◌, inl, inr, List, [], ◌∷◌, ◌++◌, length, drop, get_or, suc, zero, refl, sym, ◌∙◌, ap, subst, append_assoc, append-nil, Some}
+use Rattle.std.proofs.Common.{◌≡◌, ℕ, ◌+◌, ◌<◌, ◌≤◌, inl, inr, List, [], ◌∷◌, ◌++◌, length, drop, get_or, suc, zero, refl, sym, ◌∙◌, ap, subst, arith, append_assoc, append-nil, Some}
 use Rattle.std.proofs.lemmas.List.{drop_more, drop_all}
 use Rattle.std.specs.Prelude.{slice_get}
 use Rattle.std.proofs.lemmas.Option.{same_Some}
@@ -8,14 +8,15 @@ use Rattle.si_defs.specs.Terms as terms
 use Rattle.si_defs.proofs.ListLaws.{same_first, same_tail}
 use Rattle.si_flat.specs.declared.Cell.{Cell}
 use Rattle.si_flat.specs.declared.Cell.TheVariants as cell
-use Rattle.si_flat.specs.Cells.{Variable, query, entry, ind, Term, Terms, variable_cell, cells_of, cells_of_all, IsSound, AreSound, StandsFor, join}
+use Rattle.si_flat.specs.Cells.{Variable, query, entry, ind, Term, Terms, variable_cell, cells_of, cells_of_all, IsSound, AreSound, StandsFor, IsWhole, join}
 use Rattle.si_flat.proofs.Subterms.{StandsAmong, found_in, from_place}
 use Rattle.si_unify.specs.declared.slots.Slots.{Slots}
 use Rattle.si_unify.specs.Solving.{slot_of, AreInRange}
 use Rattle.si_unify.proofs.Places.{variable_of-slot_of, in_range-variable}
 use Rattle.si_unify.proofs.Reading.{same_term}
+use Rattle.si_unify.proofs.Rows.{count-join}
 use Rattle.si_form.specs.declared.classes.Node.{Node}
-use Rattle.si_form.specs.Classes.{GrowsTo, HaveClasses, Applies, slots_of, KnowsSlot, IsSlotsClass, NumbersCell, HasClass, HaveRow, IsClassNumbering}
+use Rattle.si_form.specs.Classes.{GrowsTo, HaveClasses, Applies, argument_count, slots_of, KnowsSlot, IsSlotsClass, NumbersCell, HasClass, AreTermsFrom, HaveRow, IsClassNumbering}
 use Rattle.si_form.proofs.NodeLaws.{grows_on, still_known}
 
 -- ---- rows of cells
@@ -116,6 +117,70 @@ module _ (slots : Slots) (classes : List ℕ) (cells : List Cell) (nodes1 nodes2
             numbers_are = (r.2, r.3);
           }
 
+-- ---- how many terms there are
+takes_none : (x : Variable) → argument_count (variable_cell x) ≡ 0
+takes_none (query n) = refl
+takes_none (entry n) = refl
+takes_none (ind n) = refl
+
+pub row_begins : (cells : List Cell) (at count : ℕ) → length cells ≤ at → count ≡ 0 → AreTermsFrom cells at count
+row_begins cells at count less none = record { row = terms.none; sound = tt; cells_are = drop_all at cells less; count_is = sym none }
+
+-- the arguments of a cell are among them, and its term stands before the others
+pub record StandsBefore (cells : List Cell) (at count : ℕ) (c : Cell) : Type 0 where
+  pub enough : argument_count c ≤ count
+  pub more : (left : ℕ) → count ≡ argument_count c + left → AreTermsFrom cells at (left + 1)
+
+pub row_before :
+    (cells : List Cell) (at before count : ℕ) (c : Cell)
+    → IsWhole cells
+    → before ≡ at + 1
+    → at < length cells
+    → c ≡ get_or cells at (cell.App 0 0 0)
+    → AreTermsFrom cells before count
+    → StandsBefore cells at count c
+row_before cells at before count c whole is less c_is later = by found.term (from_place cells at found) found.sound
+  where
+    h : AreTermsFrom cells (at + 1) count
+    h = subst (λ k. AreTermsFrom cells k count) is later
+
+    found : StandsAmong cells at
+    found = found_in cells at whole less
+
+    place : drop at cells ≡ c ∷ drop (at + 1) cells
+    place = drop_more cells at (cell.App 0 0 0) less ∙ ap (λ d. d ∷ drop (at + 1) cells) (sym c_is)
+
+    by : (u : Term) → drop at cells ≡ cells_of u ++ found.after → IsSound u → StandsBefore cells at count c
+    by (terms.var x) from sound =
+        let all : c ∷ drop (at + 1) cells ≡ variable_cell x ∷ found.after = sym place ∙ from in
+        let head : c ≡ variable_cell x = same_first all in
+        let none : argument_count c ≡ 0 = ap argument_count head ∙ takes_none x in
+        record {
+          enough = omega (arith, none);
+          more = λ left e. record {
+            row = terms.more (terms.var x) h.row;
+            sound = (tt, h.sound);
+            cells_are = place ∙ ap (λ d. d ∷ drop (at + 1) cells) head ∙ ap (λ l. variable_cell x ∷ l) h.cells_are;
+            count_is = omega (arith, h.count_is, e, none);
+          };
+        }
+    by (terms.app s us) from sound =
+        let all : c ∷ drop (at + 1) cells ≡ cell.App s.number s.arity (1 + terms.sizes us) ∷ (cells_of_all us ++ found.after) = sym place ∙ from in
+        let head : c ≡ cell.App s.number s.arity (1 + terms.sizes us) = same_first all in
+        let parts = splits us h.row found.after sound.1 h.sound (sym (same_tail all) ∙ h.cells_are) in
+        let arity_is : argument_count c ≡ s.arity = ap argument_count head in
+        let counts : terms.count h.row ≡ terms.count us + terms.count parts.rest = ap terms.count parts.row_is ∙ count-join us parts.rest in
+        record {
+          enough = omega (arith, counts, arity_is, sound.0, h.count_is);
+          more = λ left e. record {
+            row = terms.more (terms.app s us) parts.rest;
+            sound = (sound, parts.sound);
+            cells_are = from ∙ ap (λ l. cells_of (terms.app s us) ++ l) (sym parts.cells_are);
+            count_is = omega (arith, counts, arity_is, sound.0, h.count_is, e);
+          };
+        }
+
+-- ---- all cells
 pub numbering_begins : (nodes : List Node) (slots : Slots) (classes : List ℕ) (cells : List Cell) (at : ℕ) (numbers : List ℕ) → length cells ≤ at → numbers ≡ [] → IsClassNumbering nodes nodes slots classes cells at numbers
 numbering_begins nodes slots classes cells at numbers less none t f known stands are knows = record {
   known' = known;

@@ -15,7 +15,7 @@ use Rattle.si_unify.proofs.Rows.{join-more, join-none}
 use Rattle.si_form.specs.declared.classes.Node.{Node}
 use Rattle.si_form.specs.declared.classes.Node.TheVariants.{Variable as Of, Head, With}
 use Rattle.si_form.specs.Classes.{with_last, StandsForNode, AreNodes}
-use Rattle.si_form.specs.Folding.{same_numbered, same_terms, same_rows, or_slot, leader_below, LeadClasses, HaveKnown, Descends, HasDescended, IsDescending, HasTerms, IsBefore, AreSizes, node_size, part_size}
+use Rattle.si_form.specs.Folding.{same_numbered, same_terms, same_rows, or_slot, leader_below, LeadClasses, HaveKnown, HasSymbol, Descends, HasDescended, IsDescending, HasTerms, IsBefore, AreSizes, node_size, part_size}
 use Rattle.si_flat.proofs.VariableLaws.{variable_is, variable_self}
 use Rattle.si_form.proofs.NodeLaws.{known_of}
 use Rattle.si_form.proofs.Vocabularies.{number_tells, number_itself}
@@ -140,29 +140,40 @@ descending_more nodes left left1 left2 class front before argument h node pushed
       piled = (m.last_is, d.piled);
     })
 
-pub descending_lower : (nodes : List Node) (front before argument : ℕ) → HasTerms nodes → Some (With before argument) ≡ slice_get nodes front → before < front
-descending_lower nodes front before argument has node = (known_of has.0 nodes has.1 has.2 front (With before argument) (sym node)).2.front_before
+-- the node of such a class
+symbol_node : (nodes : List Node) (front : ℕ) (node : Node) (h : HasSymbol nodes front) → Some node ≡ slice_get nodes front → StandsForNode h.slots h.known front node (terms.app h.symbol h.arguments)
+symbol_node nodes front node h at = front_known h.slots nodes h.known front node h.symbol h.arguments h.are (sym at) h.class_is
 
-pub descending_ends : (nodes : List Node) (left left1 : List ℕ) (class front a b : ℕ) → IsDescending nodes left left1 class front → Some (Head a b) ≡ slice_get nodes front → Descends nodes left left1 class (Some (a, b))
+pub descending_lower : (nodes : List Node) (front before argument : ℕ) → HasSymbol nodes front → Some (With before argument) ≡ slice_get nodes front → before < front
+descending_lower nodes front before argument h node = (symbol_node nodes front (With before argument) h node).front_before
+
+pub symbol_before : (nodes : List Node) (front before argument : ℕ) → HasSymbol nodes front → Some (With before argument) ≡ slice_get nodes front → HasSymbol nodes before
+symbol_before nodes front before argument h node =
+    let m = symbol_node nodes front (With before argument) h node in
+    record { slots = h.slots; known = h.known; are = h.are; symbol = m.symbol; arguments = m.arguments; class_is = m.front_is }
+
+pub symbol_no_variable : (nodes : List Node) (front slot : ℕ) → HasSymbol nodes front → Some (Of slot) ≡ slice_get nodes front → ⊥
+symbol_no_variable nodes front slot h node =
+    let m = symbol_node nodes front (Of slot) h node in
+    let bad : terms.app h.symbol h.arguments ≡ terms.var (variable_of h.slots slot) = m.1 in cc
+
+pub symbol_inside : (nodes : List Node) (front : ℕ) → HasSymbol nodes front → front < length nodes
+symbol_inside nodes front h = omega (arith, slice_get_within h.known front (terms.app h.symbol h.arguments) h.class_is, h.are.long)
+
+pub symbol_there : (nodes : List Node) (front : ℕ) → HasSymbol nodes front → None ≡ slice_get nodes front → ⊥
+symbol_there nodes front h none =
+    let r = get_some nodes front (symbol_inside nodes front h) in
+    let bad : None ≡ Some r.0 = none ∙ r.1 in cc
+
+pub descending_ends : (nodes : List Node) (left left1 : List ℕ) (class front a b : ℕ) → IsDescending nodes left left1 class front → Some (Head a b) ≡ slice_get nodes front → Descends nodes left left1 class (a, b)
 descending_ends nodes left left1 class front a b h node slots known s ts rest are class_is have =
     let d = h slots known s ts rest are class_is have in
     let m = front_known slots nodes known front (Head a b) s d.before are (sym node) d.front_is in
-    let same = same_app s (record { number = a; arity = b }) d.before terms.none m in (
-      ap (λ x. Some (x, b)) (ap (λ r. r.number) (sym same.0)) ∙ ap (λ y. Some (s.number, y)) (ap (λ r. r.arity) (sym same.0)),
+    let same = same_app s (record { number = a; arity = b }) d.before terms.none m in
+    let pair : (a, b) ≡ (s.number, s.arity) = ap (λ (r : Symbol). (r.number, r.arity)) (sym same.0) in (
+      pair,
       subst (λ us. HaveKnown known left1 (join us rest)) (sym (d.parts ∙ ap (λ us. join us d.behind) same.1)) d.piled,
     )
-
-pub descending_no_variable : (nodes : List Node) (left left1 : List ℕ) (class front slot : ℕ) → IsDescending nodes left left1 class front → Some (Of slot) ≡ slice_get nodes front → Descends nodes left left1 class None
-descending_no_variable nodes left left1 class front slot h node slots known s ts rest are class_is have =
-    let d = h slots known s ts rest are class_is have in
-    let m = front_known slots nodes known front (Of slot) s d.before are (sym node) d.front_is in
-    let bad : terms.app s d.before ≡ terms.var (variable_of slots slot) = m.1 in cc
-
-pub descending_inside : (nodes : List Node) (left left1 : List ℕ) (class front : ℕ) → IsDescending nodes left left1 class front → None ≡ slice_get nodes front → Descends nodes left left1 class None
-descending_inside nodes left left1 class front h none slots known s ts rest are class_is have =
-    let d = h slots known s ts rest are class_is have in
-    let r = get_some nodes front (omega (arith, slice_get_within known front (terms.app s d.before) d.front_is, are.long)) in
-    let bad : None ≡ Some r.0 = none ∙ r.1 in cc
 
 -- ---- sizes
 pub is_before : (nodes : List Node) (n : ℕ) (node : Node) → HasTerms nodes → Some node ≡ slice_get nodes n → IsBefore n node

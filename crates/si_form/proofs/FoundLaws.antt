@@ -88,8 +88,9 @@ module _ (slots : Slots) (pairs : Pairs) (folding : Folded) (folds : IsFolding f
   leader_inside w is =
       (led slots found.some.0 (slot_count slots) w (found.some.0 (variable_of slots slot)) (leader_at found.some.0 found.some.1 (Some w) is)).below
 
-  pub unled : None ≡ get_or folding.leaders class None → HasRightSide slots pairs slot None
-  unled is f general b = none_led slots f (slot_count slots) (f (variable_of slots slot)) (leader_at f general None is) slot inside refl
+  pub has_leader : None ≡ get_or folding.leaders class None → ⊥
+  has_leader is =
+      none_led slots found.some.0 (slot_count slots) (found.some.0 (variable_of slots slot)) (leader_at found.some.0 found.some.1 None is) slot inside refl
 
   pub follower_side : (w : ℕ) (cells : List Cell) → Some w ≡ get_or folding.leaders class None → w ≢ slot → cells ≡ variable_cell (variable_of slots w) ∷ [] → HasRightSide slots pairs slot (Some cells)
   follower_side w cells is apart cells_are f general =

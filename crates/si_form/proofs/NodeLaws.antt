@@ -256,13 +256,6 @@ applying_begins nodes nodes' numbers s n h slots f known us rest are have count_
     }
 
 module _ (slots : Slots) (f : Variable → Term) (known : List Term) (nodes nodes' : List Node) (s : Symbol) (us rest : Terms) (k front : ℕ) (count_all : terms.count us ≡ s.arity) (less : k < s.arity) where
-  applied_none : HasApplied slots f known nodes [] s us rest k front → ⊥
-  applied_none h = by h.left h.arguments h.others
-    where
-      by : (left : Terms) → us ≡ join h.done left → HaveClasses f h.known' [] (join left rest) → ⊥
-      by terms.none e have = omega (arith, ap terms.count e, count-join h.done terms.none, h.count_is, count_all, less)
-      by (terms.more u left) e have = have
-
   applied_more : (argument n : ℕ) (numbers : List ℕ) → HasApplied slots f known nodes (argument ∷ numbers) s us rest k front → Interns nodes nodes' (With front argument) n → HasApplied slots f known nodes' numbers s us rest (k + 1) n
   applied_more argument n numbers h adds = by h.left h.arguments h.others
     where
@@ -291,10 +284,6 @@ module _ (slots : Slots) (f : Variable → Term) (known : List Term) (nodes node
             front_is = r.2 ∙ ap (λ ts. Some (terms.app s ts)) (sym (substitute_last f h.done u));
             others = still_numbers slots f h.known' nodes' r.0 numbers (join left rest) r.1 have.1;
           }
-
-pub applying_none : (nodes nodes1 : List Node) (numbers : List ℕ) (s : Symbol) (k front : ℕ) → k < s.arity → IsApplying nodes nodes1 numbers [] s k front → Applies nodes nodes1 numbers [] s front
-applying_none nodes nodes1 numbers s k front less h slots f known us rest are have count_is =
-    absurd (applied_none slots f known nodes1 nodes1 s us rest k front count_is less (h slots f known us rest are have count_is))
 
 pub applying_more : (nodes nodes1 nodes2 : List Node) (numbers numbers1 numbers2 : List ℕ) (s : Symbol) (k front argument n : ℕ) → k < s.arity → IsApplying nodes nodes1 numbers numbers1 s k front → numbers1 ≡ argument ∷ numbers2 → Interns nodes1 nodes2 (With front argument) n → IsApplying nodes nodes2 numbers numbers2 s (k + 1) n
 applying_more nodes nodes1 nodes2 numbers numbers1 numbers2 s k front argument n less h e adds slots f known us rest are have count_is =

@@ -2,7 +2,7 @@
 use Rattle.std.proofs.Common.{◌≡◌, ℕ, ◌+◌, ◌-◌, ◌^◌, ◌<◌, ◌≤◌, List, [], ◌∷◌, ◌++◌, length, get_or, refl, sym, ◌∙◌, ap, subst, arith, append_assoc, append-nil, length-append, Some, None}
 use Rattle.std.specs.Prelude.{slice_get}
 use Rattle.std.specs.List.{AllByRecursion}
-use Rattle.std.proofs.lemmas.Option.{slice_get_within, get_or_from_slice_get, same_Some, none-some}
+use Rattle.std.proofs.lemmas.Option.{slice_get_within, get_or_from_slice_get}
 use Rattle.si_defs.specs.Terms as terms
 use Rattle.si_defs.proofs.ListLaws.{all_front, all_back, all_append}
 use Rattle.si_defs.proofs.TermLaws.{size_some}
@@ -13,7 +13,7 @@ use Rattle.si_flat.proofs.Subterms.{length-cells_of, length-cells_of_all}
 use Rattle.si_unify.specs.declared.slots.Slots.{Slots}
 use Rattle.si_unify.specs.Solving.{slot_count, variable_of}
 use Rattle.si_unify.proofs.Rows.{cells-join}
-use Rattle.si_form.specs.Folding.{leader, variable_or, folded, folded_all, HaveKnown, Folded, IsFolding, CanFold, HasFolded, Descends, WritesCells, HasWritten, IsWriting}
+use Rattle.si_form.specs.Folding.{leader, variable_or, folded, folded_all, HaveKnown, Folded, IsFolding, CanFold, HasFolded, HasSymbol, Descends, WritesCells, HasWritten, IsWriting}
 use Rattle.si_form.proofs.SizeLaws.{exact_sizes}
 use Rattle.si_form.proofs.RightSides.{led}
 
@@ -161,17 +161,12 @@ module _ (slots : Slots) (folding : Folded) (folds : IsFolding folding) (class :
             }
 
 -- ---- a symbol
-pub symbol_refused : (folding : Folded) (left left' : List ℕ) (cells cells' : List Cell) (class : ℕ) → Descends folding.nodes left left' class None → WritesCells folding left left' cells cells' class
-symbol_refused folding left left' cells cells' class h slots known s ts rest are at have =
-    let bad : None ≡ Some (s.number, s.arity) = (h slots known s ts rest are at have).0 in absurd (none-some (s.number, s.arity) bad)
-
-pub symbol_written : (folding : Folded) (left left' : List ℕ) (cells cells' : List Cell) (class a b size : ℕ) → Descends folding.nodes left left' class (Some (a, b)) → size ≡ get_or folding.sizes class 0 → cells' ≡ cells ++ cell.App a b size ∷ [] → WritesCells folding left left' cells cells' class
+pub symbol_written : (folding : Folded) (left left' : List ℕ) (cells cells' : List Cell) (class a b size : ℕ) → Descends folding.nodes left left' class (a, b) → size ≡ get_or folding.sizes class 0 → cells' ≡ cells ++ cell.App a b size ∷ [] → WritesCells folding left left' cells cells' class
 symbol_written folding left left' cells cells' class a b size h size_is is slots known s ts rest are at have =
-    let r = h slots known s ts rest are at have in
-    let pair : (a, b) ≡ (s.number, s.arity) = same_Some (a, b) (s.number, s.arity) r.0 in (
+    let r = h slots known s ts rest are at have in (
       is
           ∙ ap (λ n. cells ++ cell.App a b n ∷ []) size_is
-          ∙ ap (λ p. cells ++ cell.App p.0 p.1 (get_or folding.sizes class 0) ∷ []) pair,
+          ∙ ap (λ p. cells ++ cell.App p.0 p.1 (get_or folding.sizes class 0) ∷ []) r.0,
       r.1,
     )
 
@@ -185,6 +180,7 @@ some_left slots folding folds class left cells k none less h (f, known, t, can) 
 -- what is asked has a witness
 pub record IsAsked (slots : Slots) (folding : Folded) (next : ℕ) : Type 0 where
   pub class_inside : next < length folding.nodes
+  pub symbol : get_or folding.leaders next None ≡ None → HasSymbol folding.nodes next
   pub slot_inside : (slot : ℕ) → get_or folding.leaders next None ≡ Some slot → slot < slot_count slots
 
 pub asked : (slots : Slots) (folding : Folded) → IsFolding folding → (class next : ℕ) (left : List ℕ) (cells : List Cell) (k : ℕ) (f : Variable → Term) (known : List Term) (t : Term) → CanFold slots folding class f known t → HasWritten slots f known t cells (next ∷ left) k → IsAsked slots folding next
@@ -192,8 +188,24 @@ asked slots folding folds class next left cells k f known t can h =
     let n = next_of slots folding folds class f known t can next left cells k h in
     record {
       class_inside = omega (arith, slice_get_within known next n.term n.term_is, can.are.long);
+      symbol = λ e. by n.term n.term_is n.term_leads (sym (get_or_from_slice_get folding.leaders next (leader slots f n.term) None n.leader_at) ∙ e);
       slot_inside = λ slot e. (led slots f (slot_count slots) slot n.term (sym (get_or_from_slice_get folding.leaders next (leader slots f n.term) None n.leader_at) ∙ e)).below;
     }
+  where
+    by : (u : Term) → slice_get known next ≡ Some u → AllByRecursion (λ y. leader slots f (terms.var y) ≡ None → ⊥) (terms.variables u) → leader slots f u ≡ None → HasSymbol folding.nodes next
+    by (terms.var y) at l none = absurd (l.0 none)
+    by (terms.app s us) at l none = record { slots = slots; known = known; are = can.are; symbol = s; arguments = us; class_is = at }
+
+-- the whole begins with a symbol
+pub can_symbol : (slots : Slots) (folding : Folded) (class : ℕ) (f : Variable → Term) (known : List Term) (t : Term) → CanFold slots folding class f known t → HasSymbol folding.nodes class
+can_symbol slots folding class f known t can = record {
+  slots = slots;
+  known = known;
+  are = can.are;
+  symbol = can.symbol;
+  arguments = can.arguments;
+  class_is = can.class_is ∙ ap Some can.term_is;
+}
 
 module _ (slots : Slots) (folding : Folded) (folds : IsFolding folding) (class next : ℕ) (left left' : List ℕ) (cells : List Cell) (k : ℕ) (is : left ≡ next ∷ left') (h : IsWriting slots folding class cells left k) where
   taken : (f : Variable → Term) (known : List Term) (t : Term) → CanFold slots folding class f known t → HasWritten slots f known t cells (next ∷ left') k

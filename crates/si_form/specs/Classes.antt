@@ -99,6 +99,10 @@ IsApplying nodes nodes' numbers numbers' s k n =
     → HasApplied slots f known nodes' numbers' s us rest k n
 
 -- ---- cells
+abbrev pub argument_count : Cell → ℕ
+argument_count (cell.App s a n) = a
+argument_count _ = 0
+
 -- the slots of the variables among the cells, in order
 abbrev pub slots_of : Slots → List Cell → List ℕ
 slots_of slots [] = []
@@ -137,6 +141,13 @@ HasClass nodes nodes' slots classes cells n =
     → ((slot : ℕ) → IsAmong (slots_of slots cells) slot → KnowsSlot slots f known classes slot)
     → (known' : List Term) × GrowsTo slots known nodes' known'
     × (slice_get known' n ≡ Some (terms.substitute f t))
+
+-- so many terms stand from a place on
+pub record AreTermsFrom (cells : List Cell) (at count : ℕ) : Type 0 where
+  pub row : Terms
+  pub sound : AreSound row
+  pub cells_are : drop at cells ≡ cells_of_all row
+  pub count_is : terms.count row ≡ count
 
 -- the numbers are those of the terms from a place on
 pub record HaveRow (slots : Slots) (f : Variable → Term) (known : List Term) (nodes : List Node)

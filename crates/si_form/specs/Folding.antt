@@ -83,14 +83,23 @@ HaveKnown known [] (terms.more t ts) = ⊥
 HaveKnown known (n ∷ ns) terms.none = ⊥
 HaveKnown known (n ∷ ns) (terms.more t ts) = (slice_get known n ≡ Some t) × HaveKnown known ns ts
 
+-- the class is of a term that begins with a symbol
+pub record HasSymbol (nodes : List Node) (class : ℕ) : Type 0 where
+  pub slots : Slots
+  pub known : List Term
+  pub are : AreNodes slots nodes known
+  pub symbol : Symbol
+  pub arguments : Terms
+  pub class_is : slice_get known class ≡ Some (terms.app symbol arguments)
+
 -- the answer is the symbol of the class's term; its arguments stand before the others
-abbrev pub Descends : List Node → List ℕ → List ℕ → ℕ → Option (ℕ × ℕ) → Type 0
+abbrev pub Descends : List Node → List ℕ → List ℕ → ℕ → ℕ × ℕ → Type 0
 Descends nodes left left' class answer =
     (slots : Slots) (known : List Term) (s : Symbol) (ts rest : Terms)
     → AreNodes slots nodes known
     → slice_get known class ≡ Some (terms.app s ts)
     → HaveKnown known left rest
-    → (answer ≡ Some (s.number, s.arity)) × HaveKnown known left' (join ts rest)
+    → (answer ≡ (s.number, s.arity)) × HaveKnown known left' (join ts rest)
 
 -- so far the arguments after a front have been piled up
 pub record HasDescended (known : List Term) (left : List ℕ) (s : Symbol) (ts rest : Terms)

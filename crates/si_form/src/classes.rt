@@ -1,10 +1,10 @@
 // Classes of terms that a list of bindings makes equal, each with a number.
-ghost use Rattle.std.specs.Prelude.{◌≡◌, ◌<◌, ◌≤◌, length, set, reverse, IfOk};
+ghost use Rattle.std.specs.Prelude.{◌≡◌, ◌+◌, ◌<◌, ◌≤◌, length, set, reverse, IfOk};
 ghost use Rattle.std.specs.List.{AllByRecursion};
 ghost use Rattle.si_flat.specs.Cells.{IsWhole};
 ghost use Rattle.si_unify.specs.Solving.{slot_count, CellIsInRange, AreInRange};
 ghost use Rattle.si_unify.specs.Solving.{IsAcyclic, IsBinding};
-ghost use Rattle.si_form.specs.Classes.{Interns, Applies, NumbersCell, HasClass, HasSingles, HasClasses};
+ghost use Rattle.si_form.specs.Classes.{Interns, Applies, argument_count, NumbersCell, HasClass, HasSingles, HasClasses};
 
 use crate::order::order;
 use crate::uses::uses;
@@ -47,13 +47,17 @@ fn apply(
     sym: u32,
     arity: u32,
 ) -> Result<usize, AllocError>
-    ensures { IfOk result (Applies nodes.old.keys nodes.new.keys (reverse numbers.old.items)
-        (reverse numbers.new.items) (record { number = sym; arity = arity })) }
+    requires { arity ≤ length numbers.old.items }
+    ensures applied { IfOk result (Applies nodes.old.keys nodes.new.keys
+        (reverse numbers.old.items) (reverse numbers.new.items)
+        (record { number = sym; arity = arity })) }
+    ensures taken { IfOk result (λ n. length numbers.old.items
+        ≡ arity + length numbers.new.items) }
 {
     let mut front = intern(nodes, Node::Head { sym, arity })?;
     for _ in 0..arity {
         let Some(argument) = numbers.pop() else {
-            return Ok(front);
+            unreachable!()
         };
         front = intern(nodes, Node::With { front, argument })?;
     }
@@ -70,8 +74,11 @@ fn number_of(
 ) -> Result<usize, AllocError>
     requires room { slot_count slots.now ≤ length classes.now }
     requires range { CellIsInRange slots.now cell }
-    ensures { IfOk result (NumbersCell slots.now classes.now nodes.old.keys nodes.new.keys
+    requires enough { argument_count cell ≤ length numbers.old.items }
+    ensures numbered { IfOk result (NumbersCell slots.now classes.now nodes.old.keys nodes.new.keys
         (reverse numbers.old.items) (reverse numbers.new.items) cell) }
+    ensures taken { IfOk result (λ n. length numbers.old.items
+        ≡ argument_count cell + length numbers.new.items) }
 {
     match cell {
         Cell::App { sym, arity, .. } => apply(nodes, numbers, sym, arity),

@@ -3,7 +3,7 @@ ghost use Rattle.std.specs.Prelude.{◌≡◌, ◌<◌, ◌≤◌, List, None, S
 ghost use Rattle.std.specs.Prelude.{IfOk, OnOk};
 ghost use Rattle.std.specs.List.{AllByRecursion};
 ghost use Rattle.si_flat.specs.Cells.{Variable, Term};
-ghost use Rattle.si_form.specs.Folding.{HasTerms, Descends, part_size, node_size, IsBefore};
+ghost use Rattle.si_form.specs.Folding.{HasTerms, HasSymbol, Descends, part_size, node_size, IsBefore};
 ghost use Rattle.si_form.specs.Folding.{AreSizes, WritesCells, CanFold, HasFolded, IsFolding};
 
 use crate::classes::{Classes, Node};
@@ -41,8 +41,8 @@ fn descend(
     nodes: &IndexSet<Node>,
     left: &mut Vec<usize>,
     class: usize,
-) -> Result<Option<(u32, u32)>, AllocError>
-    requires { HasTerms nodes.now.keys }
+) -> Result<(u32, u32), AllocError>
+    requires { HasSymbol nodes.now.keys class }
     ensures { IfOk result (Descends nodes.now.keys (reverse left.old.items)
         (reverse left.new.items) class) }
 {
@@ -58,9 +58,9 @@ fn descend(
                 left.push(argument)?;
                 front = before;
             }
-            Some(&Node::Head { sym, arity }) => return Ok(Some((sym, arity))),
-            Some(&Node::Variable(_)) => return Ok(None),
-            None => return Ok(None),
+            Some(&Node::Head { sym, arity }) => return Ok((sym, arity)),
+            Some(&Node::Variable(_)) => unreachable!(),
+            None => unreachable!(),
         }
     }
 }
@@ -157,13 +157,11 @@ impl Folding {
         cells: &mut Vec<Cell>,
         class: usize,
     ) -> Result<(), AllocError>
-        requires { class < length self.now.nodes }
+        requires { HasSymbol self.now.nodes class }
         ensures { OnOk result (WritesCells self.now (reverse left.old.items)
             (reverse left.new.items) cells.old.items cells.new.items class) }
     {
-        let Some((sym, arity)) = descend(&self.classes.nodes, left, class)? else {
-            return Ok(());
-        };
+        let (sym, arity) = descend(&self.classes.nodes, left, class)?;
         let len = self.sizes[class];
         cells.push(Cell::App { sym, arity, len })?;
         Ok(())

@@ -60,7 +60,7 @@ fn right_side<'a>(
 {
     let class = folding.class_at(slot);
     let Some(leader) = folding.leader_of(class) else {
-        return Ok(None);
+        unreachable!()
     };
     if leader != slot {
         let cells = Vec::from_slice(alloc, &[slots.cell_of(leader)])?;

@@ -1,24 +1,30 @@
-use Rattle.std.proofs.Common.{◌≡◌, [], reverse, ◌∷◌, sym, ◌∙◌, ap, subst, arith}
+use Rattle.std.proofs.Common.{[], ◌∷◌, length, reverse, ◌∙◌, ap, arith, length-append}
 use Rattle.std.proofs.lemmas.List.{reverse-append}
-use Rattle.si_form.specs.Classes.{IsApplying, Applies}
-use Rattle.si_form.proofs.NodeLaws.{applying_begins, applying_more, applying_ends, applying_none, none_piled}
+use Rattle.si_form.proofs.NodeLaws.{applying_begins, applying_more, applying_ends}
 use Rattle.si_form.proofs.classes.apply.Goals as goal
 
 pub loop-init : goal.loop-init
-loop-init c = applying_begins _ _ _ (record { number = c.args.sym; arity = c.args.arity }) _ c.in_ok-front.ensures
+loop-init c = record {
+  is_applying = applying_begins _ _ _ (record { number = c.args.sym; arity = c.args.arity }) _ c.in_ok-front.ensures;
+  within = omega arith;
+  taken = omega arith;
+}
+
+pub unreachable-requires : goal.unreachable-requires
+unreachable-requires c = omega (arith, c.requires, c.loop-test.true, c.loop.invariant.taken, c.in_default.ensures.cases.0, c.loop.numbers.ok)
 
 pub loop-preserved : goal.loop-preserved
-loop-preserved c =
-    applying_more _ _ _ _ _ _ _ _ _ c.in-Some.argument _ c.loop-test.true c.loop.invariant (ap reverse c.in-Some.ensures.items ∙ reverse-append c.pop.new.self.items (c.in-Some.argument ∷ [])) c.in_ok-front-2.ensures
+loop-preserved c = record {
+  is_applying =
+      applying_more _ _ _ _ _ _ _ _ _ c.in-Some.argument _ c.loop-test.true c.loop.invariant.is_applying (ap reverse c.in-Some.ensures.items ∙ reverse-append c.pop.new.self.items (c.in-Some.argument ∷ [])) c.in_ok-front-2.ensures;
+  within = omega (arith, c.loop-test.true);
+  taken =
+      omega (arith, c.loop.invariant.taken, ap (λ l. length l) c.in-Some.ensures.items, length-append c.pop.new.self.items (c.in-Some.argument ∷ []));
+}
 
-pub returns : goal.returns
-returns c =
-    applying_ends _ _ _ _ _ _ _ c.loop-test.false c.loop.invariant
+pub returns-clause-applied : goal.returns-clause-applied
+returns-clause-applied c =
+    applying_ends _ _ _ _ _ _ _ c.loop-test.false c.loop.invariant.is_applying
 
-pub returns-in_default : goal.returns-in_default
-returns-in_default c =
-    let new_none : reverse c.pop.new.self.items ≡ [] = none_piled c.pop.new.self.items (omega (arith, c.in_default.ensures.cases.1, c.pop.new.self.ok)) in
-    let old_none : reverse c.loop.numbers.items ≡ [] = none_piled c.loop.numbers.items (omega (arith, c.in_default.ensures.cases.0, c.loop.numbers.ok)) in
-    subst (λ l. Applies c.args.nodes.now.keys c.loop.nodes.keys (reverse c.args.numbers.now.items) l (record { number = c.args.sym; arity = c.args.arity }) c.loop.front) (sym new_none)
-    (applying_none c.args.nodes.now.keys c.loop.nodes.keys (reverse c.args.numbers.now.items) (record { number = c.args.sym; arity = c.args.arity }) c.loop.counter c.loop.front c.loop-test.true
-    (subst (λ l. IsApplying c.args.nodes.now.keys c.loop.nodes.keys (reverse c.args.numbers.now.items) l (record { number = c.args.sym; arity = c.args.arity }) c.loop.counter c.loop.front) old_none c.loop.invariant))
+pub returns-clause-taken : goal.returns-clause-taken
+returns-clause-taken c = omega (arith, c.loop-test.false, c.loop.invariant.within, c.loop.invariant.taken)

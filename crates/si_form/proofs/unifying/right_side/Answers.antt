@@ -1,15 +1,15 @@
 use Rattle.std.proofs.Common.{◌∷◌, [], Some, sym, ◌∙◌, ap, subst}
 use Rattle.si_form.specs.Unifying.{IsBoundTo}
-use Rattle.si_form.proofs.FoundLaws.{class_inside, leader_inside, unled, follower_side, unbound_side, some_fold, leader_side}
+use Rattle.si_form.proofs.FoundLaws.{class_inside, leader_inside, has_leader, follower_side, unbound_side, some_fold, leader_side}
 use Rattle.si_form.proofs.unifying.right_side.Goals as goal
 
 pub leader_of-requires : goal.leader_of-requires
 leader_of-requires c =
     class_inside c.args.slots.now c.args.trail.now.pairs c.args.folding.now c.class_at-class.ensures.folded c.requires.found c.args.slot c.class_at-class.result c.requires.inside c.class_at-class.ensures.class
 
-pub returns-in_default : goal.returns-in_default
-returns-in_default c =
-    unled c.args.slots.now c.args.trail.now.pairs c.args.folding.now c.class_at-class.ensures.folded c.requires.found c.args.slot c.class_at-class.result c.requires.inside c.class_at-class.ensures.class
+pub unreachable-requires : goal.unreachable-requires
+unreachable-requires c =
+    has_leader c.args.slots.now c.args.trail.now.pairs c.args.folding.now c.class_at-class.ensures.folded c.requires.found c.args.slot c.class_at-class.result c.requires.inside c.class_at-class.ensures.class
     (sym c.in_default.is ∙ c.leader_of.ensures)
 
 pub cell_of-requires : goal.cell_of-requires

@@ -3,7 +3,7 @@ use Rattle.std.proofs.lemmas.Option.{get_or_from_slice_get, slice_get_read, slic
 use Rattle.std.proofs.lemmas.List.{reverse-append}
 use Rattle.si_form.specs.Folding.{Folded, IsFolding, WritesCells}
 use Rattle.si_form.proofs.NodeLaws.{none_piled}
-use Rattle.si_form.proofs.WritingLaws.{writing_begins, all_written, some_left, asked_of, writes_variable, writes_symbol}
+use Rattle.si_form.proofs.WritingLaws.{writing_begins, all_written, some_left, can_symbol, asked_of, writes_variable, writes_symbol}
 use Rattle.si_form.proofs.folding.Folding.fold.Goals as goal
 
 pub unreachable-requires : goal.unreachable-requires
@@ -17,6 +17,9 @@ unreachable-requires c =
     some_left c.args.slots.now _ (subst IsFolding c.self.view_is c.self.invariant) _ _ c.loop.cells.items c.loop.counter
     (none_piled c.loop.left.items (omega (arith, c.in_default.ensures.cases.0, c.loop.left.ok)))
     (subst (λ (f : Folded). c.loop.counter < get_or f.sizes c.args.class 0) c.self.view_is (subst (λ n. c.loop.counter < n) len c.loop-test.true)) c.loop.invariant c.requires.folds
+
+pub write_symbol-requires : goal.write_symbol-requires
+write_symbol-requires c = can_symbol _ _ _ _ _ _ c.requires.folds.3
 
 pub loop-init : goal.loop-init
 loop-init c =
@@ -32,7 +35,8 @@ leader_of-requires c =
 
 pub write_symbol-requires-in_default-leader_of : goal.write_symbol-requires-in_default-leader_of
 write_symbol-requires-in_default-leader_of c =
-    (asked_of c.args.slots.now _ (subst IsFolding c.self.view_is c.self.invariant) _ c.in-Some.next _ (reverse c.pop.new.self.items) _ _ (ap reverse c.in-Some.ensures.items ∙ reverse-append c.pop.new.self.items (c.in-Some.next ∷ [])) c.loop.invariant c.requires.folds).class_inside
+    (asked_of c.args.slots.now _ (subst IsFolding c.self.view_is c.self.invariant) _ c.in-Some.next _ (reverse c.pop.new.self.items) _ _ (ap reverse c.in-Some.ensures.items ∙ reverse-append c.pop.new.self.items (c.in-Some.next ∷ [])) c.loop.invariant c.requires.folds).symbol
+    (sym c.leader_of.ensures ∙ c.in_default-leader_of.is)
 
 pub cell_of-requires : goal.cell_of-requires
 cell_of-requires c =

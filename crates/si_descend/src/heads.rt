@@ -67,7 +67,7 @@ pub(crate) fn is_unwanted(search: &Search<'_>, wanted: Option<Wanted>, head: Hea
 /// Whether no variable of an entry can become a term that begins with a symbol.
 #[inline(always)]
 pub(crate) fn keeps_variables(relation: Relation, slots: &Slots) -> bool
-    ensures { IsTrue result → KeepsVariables relation slots.now }
+    ensures { IsTrue result ↔ KeepsVariables relation slots.now }
 {
     match relation {
         Relation::Variants => true,

@@ -1,5 +1,5 @@
 -- What is told of two terms that are to be made equal, where no search is made.
-use Rattle.std.specs.Prelude.{◌≡◌, ℕ, ◌↔◌, true, List, [], ◌∷◌}
+use Rattle.std.specs.Prelude.{◌≡◌, ℕ, ◌↔◌, Bool, true, false, List, [], ◌∷◌}
 use Rattle.si_defs.specs.Terms as terms
 use Rattle.si_flat.specs.declared.Cell.{Cell}
 use Rattle.si_flat.specs.declared.Cell.TheVariants as cell
@@ -15,6 +15,12 @@ IsSameVariable (cell.Query m) (cell.Query n) = m ≡ n
 IsSameVariable (cell.Entry m) (cell.Entry n) = m ≡ n
 IsSameVariable (cell.Ind m) (cell.Ind n) = m ≡ n
 IsSameVariable _ _ = ⊥
+
+-- the one is an indicator, or the other is of the query
+abbrev pub is_newer : Cell → Cell → Bool
+is_newer (cell.Ind m) other = true
+is_newer one (cell.Query n) = true
+is_newer one other = false
 
 -- ---- variables
 -- the slot of a variable that isn't frozen

@@ -5,7 +5,7 @@ ghost use Rattle.si_trail.specs.Trails.{value_at};
 ghost use Rattle.si_unify.specs.Spots.{free_slot};
 ghost use Rattle.si_unify.specs.Symbols.{same_symbol};
 ghost use Rattle.si_fit.specs.Fitting.{AreWalkable, StaysSolvable, StayWithin};
-ghost use Rattle.si_fit.specs.Meeting.{HasMet};
+ghost use Rattle.si_fit.specs.Meeting.{is_newer, HasMet};
 
 use crate::meeting::{Met, bind, is_same_variable, value_at};
 use si_flat::{Cell, sub};
@@ -112,7 +112,9 @@ fn meet_fixed<'a>(
 // one is the query's, to which a variable of the right side led. So where one stands often, the
 // query's variables that it meets lead to the first of them, and not each to the next.
 #[inline(always)]
-fn is_newer(one: Cell, other: Cell) -> bool {
+fn is_newer(one: Cell, other: Cell) -> bool
+    ensures { result ≡ is_newer one other }
+{
     match (one, other) {
         (Cell::Ind(_), _) => true,
         (_, Cell::Query(_)) => true,

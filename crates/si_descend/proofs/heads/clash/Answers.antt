@@ -15,7 +15,7 @@ returns-in-Var c e =
     let first = cell.App c.in-App.sym c.in-App.arity c.in-App.len in
     cannot_have c.args.relation c.args.slots.now c.args.first first c.args.head (head.Var c.in-Var.field-0) c.in-App.is c.in-Var.is
     (cannot_have_entry c.args.relation c.args.slots.now first c.in-Var.field-0
-    (symbol_entry c.args.relation c.args.slots.now c.in-App.sym c.in-App.arity c.in-App.len c.in-Var.field-0 (c.keeps_variables.ensures e)))
+    (symbol_entry c.args.relation c.args.slots.now c.in-App.sym c.in-App.arity c.in-App.len c.in-Var.field-0 (c.keeps_variables.ensures.0 e)))
 
 pub returns-in_default : goal.returns-in_default
 returns-in_default c e = c.clash_variable.ensures e c.args.relation

@@ -1,7 +1,7 @@
 -- Slices of cells, and lists of bindings, read from the front.
 use Rattle.std.proofs.Common.{◌≡◌, ◌≢◌, ℕ, ◌+◌, ◌-◌, ◌≤◌, inl, inr, List, [], ◌∷◌, ◌++◌, length, length-append, take, drop, append_assoc, suc, zero, refl, sym, ◌∙◌, ap, subst, arith, Some}
 use Rattle.std.proofs.lemmas.Bool.Decides.{eqb_tells}
-use Rattle.std.proofs.lemmas.List.{take_all, length-drop}
+use Rattle.std.proofs.lemmas.List.{take_all, take-append-drop, length-drop}
 use Rattle.std.proofs.Math.Seq.{take-append_seam, drop-append_seam}
 use Rattle.std.specs.Prelude.{slice_get}
 use Rattle.std.specs.List.{AllByRecursion}
@@ -24,6 +24,19 @@ module _ (cells piece : List Cell) where
       ∙ take-append_seam piece p.after
 
   -- the slice doesn't begin at this place
+  pub piece_here : (at : ℕ) → take (length piece) (take (length cells - at) (drop at cells)) ≡ piece → IsPieceOf cells piece
+  piece_here at same =
+      let here : take (length piece) (drop at cells) ≡ piece =
+      ap (take (length piece)) (sym (take_all (length cells - at) (drop at cells) (omega (arith, length-drop at cells)))) ∙ same in
+      record {
+        before = take at cells;
+        after = drop (length piece) (drop at cells);
+        whole =
+            sym (take-append-drop at cells)
+            ∙ ap (λ l. take at cells ++ l) (sym (take-append-drop (length piece) (drop at cells)) ∙ ap (λ l. l ++ drop (length piece) (drop at cells)) here)
+            ∙ sym (append_assoc (take at cells) piece (drop (length piece) (drop at cells)));
+      }
+
   pub piece_later :
       (at : ℕ)
       → (take (length piece) (take (length cells - at) (drop at cells)) ≡ piece → ⊥)

@@ -1,7 +1,7 @@
 // The canonical list where it can be read off the bindings.
 // No bound variable stands in a value then, and no value that is an application in another. So each
 // application leads its class alone, and variables that become the same are led by the first.
-ghost use Rattle.std.specs.Prelude.{◌≡◌, ◌<◌, ◌↔◌, false, IsTrue, IfOk, IfSome, None, Some, length};
+ghost use Rattle.std.specs.Prelude.{◌≡◌, ◌<◌, ◌↔◌, IsTrue, IfOk, IfSome, None, Some, length};
 ghost use Rattle.std.specs.List.{AllByRecursion};
 ghost use Rattle.si_flat.specs.Flattening.{owners_variable};
 ghost use Rattle.si_trail.specs.Trails.{value_at, HasDistinctSlots};
@@ -68,7 +68,7 @@ fn is_small<'a>(trail: &Trail<&'a [Cell]>, count: usize) -> bool
 // Whether some slice of the cells has the cells of the piece.
 fn has_piece(cells: &[Cell], piece: &[Cell]) -> bool
     requires { 0 < length piece.now }
-    ensures { result ≡ false → IsPieceOf cells.now piece.now → ⊥ }
+    ensures { IsTrue result ↔ IsPieceOf cells.now piece.now }
 {
     if cells.len() < piece.len() {
         return false;
@@ -85,7 +85,7 @@ fn has_piece(cells: &[Cell], piece: &[Cell]) -> bool
 // Whether the value of this slot is no slice of another value.
 fn stands_apart<'a>(trail: &Trail<&'a [Cell]>, slot: usize, value: &[Cell]) -> bool
     requires { 0 < length value.now }
-    ensures { IsTrue result → StandsApart trail.now.pairs slot value.now }
+    ensures { IsTrue result ↔ StandsApart trail.now.pairs slot value.now }
 {
     for n in 0..trail.mark() {
         let other = trail.slot(n);
@@ -106,7 +106,7 @@ fn stands_apart<'a>(trail: &Trail<&'a [Cell]>, slot: usize, value: &[Cell]) -> b
 // other value.
 fn is_direct<'a>(slots: &Slots, trail: &Trail<&'a [Cell]>, slot: usize, value: &'a [Cell]) -> bool
     requires { 0 < length value.now }
-    ensures { IsTrue result → IsDirect slots.now trail.now.pairs (slot, value.entry) }
+    ensures { IsTrue result ↔ IsDirect slots.now trail.now.pairs (slot, value.entry) }
 {
     if !are_unbound(trail, slots, value) {
         return false;
@@ -120,7 +120,7 @@ fn is_direct<'a>(slots: &Slots, trail: &Trail<&'a [Cell]>, slot: usize, value: &
 // Whether this is so for all values.
 fn are_direct<'a>(slots: &Slots, trail: &Trail<&'a [Cell]>) -> bool
     requires { AllByRecursion (IsBinding slots.now) trail.now.pairs }
-    ensures { IsTrue result → AreDirect slots.now trail.now.pairs }
+    ensures { IsTrue result ↔ AreDirect slots.now trail.now.pairs }
 {
     for n in 0..trail.mark() {
         let slot = trail.slot(n);

@@ -1,4 +1,5 @@
-use Rattle.std.proofs.Common.{sym, arith}
+use Rattle.std.proofs.Common.{◌≡◌, true, false, refl, sym, ◌∙◌, arith}
+use Rattle.si_defs.proofs.ListLaws.{all_got}
 use Rattle.si_form.specs.Direct.{IsDirect}
 use Rattle.si_unify.proofs.Lists.{slot_bound}
 use Rattle.si_form.proofs.DirectLaws.{some_cells}
@@ -18,9 +19,23 @@ pub loop-n-preserved : goal.loop-n-preserved
 loop-n-preserved c =
     all_more (IsDirect c.args.slots.now c.args.trail.now.pairs) c.args.trail.now.pairs c.loop-n.n (c.slot-slot.result, c.in-Some.value.now)
     (pair_at c.args.trail.now.pairs c.loop-n.n c.slot-slot.result c.in-Some.value.now c.mark-n-end.ensures.distinct c.slot-slot.ensures (sym c.in-Some.ensures))
-    (c.is_direct.ensures c.if-not-is_direct.false) c.loop-n.invariant
+    (c.is_direct.ensures.0 c.if-not-is_direct.false) c.loop-n.invariant
+
+pub returns-then-not-is_direct : goal.returns-then-not-is_direct
+returns-then-not-is_direct c = (
+  λ e. let bad : false ≡ true = e in cc,
+  λ all.
+      sym c.if-not-is_direct.true
+      ∙ c.is_direct.ensures.1
+      (
+      all_got (IsDirect c.args.slots.now c.args.trail.now.pairs) c.args.trail.now.pairs c.loop-n.n (c.slot-slot.result, c.in-Some.value.now) all
+      (pair_at c.args.trail.now.pairs c.loop-n.n c.slot-slot.result c.in-Some.value.now c.mark-n-end.ensures.distinct c.slot-slot.ensures (sym c.in-Some.ensures))
+      ),
+)
 
 pub returns : goal.returns
-returns c e =
-    all_ends (IsDirect c.args.slots.now c.args.trail.now.pairs) c.args.trail.now.pairs c.loop-n.n
-    (omega (arith, c.loop-n-test.false, c.mark-n-end.ensures.number)) c.loop-n.invariant
+returns c = (
+  λ e. all_ends (IsDirect c.args.slots.now c.args.trail.now.pairs) c.args.trail.now.pairs c.loop-n.n
+      (omega (arith, c.loop-n-test.false, c.mark-n-end.ensures.number)) c.loop-n.invariant,
+  λ all. refl,
+)

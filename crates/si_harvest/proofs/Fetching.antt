@@ -7,6 +7,7 @@ use Rattle.si_io.specs.declared.counts.LibraryCounts.{LibraryCounts}
 use Rattle.si_io.specs.declared.library.Fetched.{Fetched}
 use Rattle.si_io.specs.declared.library.Fetched.TheVariants.{File, Missing, TooBig, Failed, Memory}
 use Rattle.si_io.specs.Counts.{raised, raised_by, fetch_counted}
+use Rattle.si_io.specs.Shown.{LibraryShown}
 use Rattle.si_io.proofs.Fetching.{HasFetchCause_once, same_files}
 use Rattle.si_harvest.specs.declared.reading.Reading.{Reading}
 use Rattle.si_harvest.specs.Opened.{opened, FetchesOnce}
@@ -27,23 +28,28 @@ called_once answer before now once = ap (λ (c : LibraryCounts). c.calls) once �
 pub ruleset one_fetch = (HasFetchCause_once, called_once)
 
 -- ---- the fetches of a reading
-pub fetches_none : (most made now calls calls_now : ℕ) → now ≡ made → calls_now ≡ calls → FetchesOn most made now calls calls_now
-fetches_none most made now calls calls_now same still = record {
+pub fetches_none : (most : ℕ) (old new : Reading) (before now : LibraryShown) → new.fetches ≡ old.fetches → now.counts.calls ≡ before.counts.calls → FetchesOn most old new before now
+fetches_none most old new before now same still = record {
   later = omega (arith, same);
   counted = λ first counted. still ∙ counted ∙ ap (λ n. raised_by n first) (sym same);
   few = λ few. omega (arith, same, few);
 }
 
-pub fetches_once : (most made calls calls_now : ℕ) → made < most → calls_now ≡ raised calls → FetchesOn most made (made + 1) calls calls_now
-fetches_once most made calls calls_now below once = record {
-  later = omega arith;
-  counted = λ first counted. omega (arith, once, counted);
-  few = λ few. omega (arith, below);
+pub fetches_once : (most : ℕ) (old new : Reading) (before now : LibraryShown) → old.fetches < most → new.fetches ≡ old.fetches + 1 → now.counts.calls ≡ raised before.counts.calls
+    → FetchesOn most old new before now
+fetches_once most old new before now below one_more once = record {
+  later = omega (arith, one_more);
+  counted = λ first counted. omega (arith, one_more, once, counted);
+  few = λ few. omega (arith, one_more, below);
 }
 
--- the count before may be written in another way
-pub fetches_from : (most made middle now calls calls_now : ℕ) → middle ≡ made → FetchesOn most middle now calls calls_now → FetchesOn most made now calls calls_now
-fetches_from most made middle now calls calls_now same h = subst (λ n. FetchesOn most n now calls calls_now) same h
+-- another reading before, with the same count
+pub fetches_from : (most : ℕ) (old middle new : Reading) (before now : LibraryShown) → middle.fetches ≡ old.fetches → FetchesOn most middle new before now → FetchesOn most old new before now
+fetches_from most old middle new before now same h = record {
+  later = omega (arith, same, h.later);
+  counted = λ first counted. h.counted first (counted ∙ ap (λ n. raised_by n first) (sym same));
+  few = λ few. h.few (omega (arith, same, few));
+}
 
 -- ---- a load
 -- no call is made yet

@@ -9,7 +9,7 @@ use Rattle.si_state.specs.Acceptance.{Accepts}
 use Rattle.si_state.specs.Harvest.{AreAccepted}
 use Rattle.si_sign.proofs.StoreLaws.{count_append}
 use Rattle.si_harvest.specs.declared.faults.Loaded.{Loaded}
-use Rattle.si_harvest.specs.Gains.{CountsNoMore, Gained}
+use Rattle.si_harvest.specs.Gains.{CountsNoMore, Gained, nothing_loaded}
 
 one_entries : (c : Clause) → length (state_entries (c ∷ [])) ≡ length (entries c)
 one_entries c = omega (arith, length-append (map (placed_in c) (entries c)) [], length-map (entries c) (placed_in c))
@@ -46,11 +46,20 @@ gained_more loaded rules start state state' c n a e h = record {
   entries = omega (arith, h.entries, e, count_append h.gained (c ∷ []), one_entries c);
 }
 
-pub gained_nothing : (rules : Rules) (state : List Clause) → Gained rules state (record { clauses = 0; entries = 0 }) state
-gained_nothing rules state = record { gained = []; whole = sym (append-nil state); accepted = tt; clauses = refl; entries = refl }
+pub gained_nothing : (rules : Rules) (state : List Clause) (loaded : Loaded) → loaded ≡ nothing_loaded → Gained rules state loaded state
+gained_nothing rules state loaded none = record {
+  gained = [];
+  whole = sym (append-nil state);
+  accepted = tt;
+  clauses = ap (λ (l : Loaded). l.clauses) none;
+  entries = ap (λ (l : Loaded). l.entries) none;
+}
 
-pub counts_nothing : (state : List Clause) → CountsNoMore (record { clauses = 0; entries = 0 }) state
-counts_nothing state = record { clauses = omega arith; entries = omega arith }
+pub counts_nothing : (state : List Clause) (loaded : Loaded) → loaded ≡ nothing_loaded → CountsNoMore loaded state
+counts_nothing state loaded none = record {
+  clauses = omega (arith, ap (λ (l : Loaded). l.clauses) none, ap (λ (l : Loaded). l.entries) none);
+  entries = omega (arith, ap (λ (l : Loaded). l.entries) none);
+}
 
 -- what was gained is taken away
 pub rolled_back : (rules : Rules) (start state left : List Clause) (loaded : Loaded) → Gained rules start loaded state → left ≡ take (length state - loaded.clauses) state → left ≡ start

@@ -245,22 +245,25 @@ module _ (told : Option Files) (bounds : Bounds) (rules : Rules) (start : List C
   narrows (only names) (Some set) around h = (names, h, refl)
 
   -- the file is open inside the others
-  pub enters : (old middle new : Reading) (state : List Clause) (items : List OpenFile) (f : OpenFile) (end : ℕ) (name : Bytes) (selection : Selection) (chosen : Option NameSet)
+  pub enters : (old new : Reading) (state : List Clause) (items : List OpenFile) (f : OpenFile) (end : ℕ) (name : Bytes) (selection : Selection)
       → old.files.items ≡ items ++ f ∷ [] → BeginsWithItem (drop f.at f.bytes.items) (include_item name selection) (drop end f.bytes.items)
-      → Lists selection chosen → middle.files.items ≡ items ++ record f { at = end } ∷ [] → middle.fetches ≡ old.fetches → OpensInside told bounds name chosen middle new
+      → OpensInside told bounds name (Lists selection) (items ++ record f { at = end } ∷ []) old.fetches new
       → IsUnderway told bounds rules start file old state → IsUnderway told bounds rules start file new state
-  enters old middle new state items f end name selection chosen e b lists same made h u = by told refl where
+  enters old new state items f end name selection e b h u = by told refl where
     w : Front f (reverse items) u.points
     w = now_front old state items f e u
 
     next : ReadingPoint
     next = record w.point { rest = drop end f.bytes.items }
 
-    stands : Stand (reverse middle.files.items) (next ∷ w.outer)
-    stands = subst (λ fs. Stand fs (next ∷ w.outer)) (sym (ap (λ l. reverse l) same ∙ innermost items (record f { at = end }))) (behind f w.outer w.point end w.own, w.others)
+    moved : List OpenFile
+    moved = items ++ record f { at = end } ∷ []
 
-    names : w.point.opened ≡ opened middle.files.items
-    names = stand_names (reverse middle.files.items) (next ∷ w.outer) stands
+    stands : Stand (reverse moved) (next ∷ w.outer)
+    stands = subst (λ fs. Stand fs (next ∷ w.outer)) (sym (innermost items (record f { at = end }))) (behind f w.outer w.point end w.own, w.others)
+
+    names : w.point.opened ≡ opened moved
+    names = stand_names (reverse moved) (next ∷ w.outer) stands
 
     item : BeginsWithItem w.point.rest (include_item name selection) (drop end f.bytes.items)
     item = subst (λ l. BeginsWithItem l (include_item name selection) (drop end f.bytes.items)) (sym w.own.left) b
@@ -273,32 +276,29 @@ module _ (told : Option Files) (bounds : Bounds) (rules : Rules) (start : List C
       named = sym h.given.named;
       whole = refl;
       among = ap (λ n. n ∷ w.point.opened) (sym h.given.named);
-      selects = subst (λ c. Narrows c w.point.around (narrowed selection w.point.around)) (sym h.given.selects) (narrows selection chosen w.point.around lists);
+      selects = subst (λ c. Narrows c w.point.around (narrowed selection w.point.around)) (sym h.given.selects) (narrows selection h.chosen w.point.around h.listed);
       left = ap (λ n. drop n h.file.bytes.items) (sym h.given.front);
     }
 
     all_stand : Stand (reverse new.files.items) (inner ∷ next ∷ w.outer)
-    all_stand = subst (λ fs. Stand fs (inner ∷ next ∷ w.outer)) (sym (ap (λ l. reverse l) h.inside ∙ innermost middle.files.items h.file)) (own, stands)
-
-    count : new.fetches ≡ old.fetches + 1
-    count = h.counted ∙ ap (λ n. n + 1) made
+    all_stand = subst (λ fs. Stand fs (inner ∷ next ∷ w.outer)) (sym (ap (λ l. reverse l) h.inside ∙ innermost moved h.file)) (own, stands)
 
     may : MayAsk bounds w.point.opened old.fetches name
-    may = subst (λ l. MayAsk bounds l old.fetches name) (sym names) (subst (λ n. MayAsk bounds (opened middle.files.items) n name) made h.may)
+    may = subst (λ l. MayAsk bounds l old.fetches name) (sym names) h.may
 
     by : (t : Option Files) → told ≡ t → IsUnderway told bounds rules start file new state
     by t same_told =
-        goes_on old new state state (ask name ∷ []) (inner ∷ next ∷ w.outer) u all_stand (sym (append-nil state)) (omega (arith, count))
-        (once_fetched old state items f end name selection new.fetches e b (inr (subst (λ fs. MayAsk bounds (opened fs) old.fetches name) same (subst (λ n. MayAsk bounds (opened middle.files.items) n name) made h.may), count)) u)
+        goes_on old new state state (ask name ∷ []) (inner ∷ next ∷ w.outer) u all_stand (sym (append-nil state)) (omega (arith, h.counted))
+        (once_fetched old state items f end name selection new.fetches e b (inr (h.may, h.counted)) u)
         (λ files q es fault k. subst (λ ss. Finishes files bounds rules ss old.fetches state (ask name ∷ es) fault) (sym w.first)
         (finishes_opened files bounds rules w.point w.outer old.fetches state name h.file.bytes.items selection (drop end f.bytes.items) es fault item may
         (given files q) h.given.small
-        (subst (λ n. Finishes files bounds rules (inner ∷ next ∷ w.outer) n state es fault) count k))) where
+        (subst (λ n. Finishes files bounds rules (inner ∷ next ∷ w.outer) n state es fault) h.counted k))) where
           given : (files : Files) → told ≡ Some files → files name ≡ Some h.file.bytes.items
           given files q = subst (λ x. IfSome x (λ fs. fs name ≡ Some h.file.bytes.items)) q h.given.given
 
   -- ---- the first file
-  pub may_begin : (old new : Reading) → old.files.items ≡ [] → old.fetches ≡ 0 → OpensInside told bounds file None old new → MayAsk bounds [] 0 file
+  pub may_begin : (old new : Reading) → old.files.items ≡ [] → old.fetches ≡ 0 → OpensInside told bounds file (λ names. names ≡ None) old.files.items old.fetches new → MayAsk bounds [] 0 file
   may_begin old new none zero h = subst (λ n. MayAsk bounds [] n file) zero (subst (λ l. MayAsk bounds (opened l) old.fetches file) none h.may)
 
   pub never_begins : (old : Reading) (made : ℕ) (fault : Fault) → old.files.items ≡ [] → old.fetches ≡ 0 → IsUnopened told bounds file old.files.items old.fetches made fault → HasFault told bounds rules start file made fault
@@ -326,7 +326,7 @@ module _ (told : Option Files) (bounds : Bounds) (rules : Rules) (start : List C
   first_fetched old made none zero (inl same) = inl (same ∙ zero)
   first_fetched old made none zero (inr (may, one_more)) = inr (file, never_begins old made (failed file) none zero (may_fail file old.files.items old.fetches made may one_more))
 
-  pub begins : (old new : Reading) → old.files.items ≡ [] → old.fetches ≡ 0 → OpensInside told bounds file None old new → IsUnderway told bounds rules start file new start
+  pub begins : (old new : Reading) → old.files.items ≡ [] → old.fetches ≡ 0 → OpensInside told bounds file (λ names. names ≡ None) old.files.items old.fetches new → IsUnderway told bounds rules start file new start
   begins old new none zero h = record {
     points = inner ∷ [];
     stand = subst (λ fs. Stand fs (inner ∷ [])) (sym (ap (λ l. reverse l) (h.inside ∙ ap (λ l. l ++ h.file ∷ []) none))) (own, tt);
@@ -347,7 +347,7 @@ module _ (told : Option Files) (bounds : Bounds) (rules : Rules) (start : List C
       named = sym h.given.named;
       whole = refl;
       among = ap (λ n. n ∷ []) (sym h.given.named);
-      selects = subst (λ c. Narrows c [] []) (sym h.given.selects) refl;
+      selects = subst (λ c. Narrows c [] []) (sym (h.given.selects ∙ h.listed)) refl;
       left = ap (λ n. drop n h.file.bytes.items) (sym h.given.front);
     }
 

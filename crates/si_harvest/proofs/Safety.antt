@@ -31,11 +31,11 @@ within_moved items f end h e =
     within_more items (record f { at = end }) (within_others items f h) (record { place = e; size = (within_last items f h).size })
 
 -- another file is open inside
-pub within_entered : (told : Option Files) (bounds : Bounds) (name : Bytes) (chosen : Option NameSet) (middle new : Reading) → bounds.file ≤ MOST_OCCURRENCES
-    → OpensInside told bounds name chosen middle new → AreWithin middle.files.items → AreWithin new.files.items
-within_entered told bounds name chosen middle new b h w =
+pub within_entered : (told : Option Files) (bounds : Bounds) (name : Bytes) (AreListed : Option NameSet → Type 0) (outer : List OpenFile) (made : ℕ) (new : Reading) → bounds.file ≤ MOST_OCCURRENCES
+    → OpensInside told bounds name AreListed outer made new → AreWithin outer → AreWithin new.files.items
+within_entered told bounds name AreListed outer made new b h w =
     subst AreWithin (sym h.inside)
-    (within_more middle.files.items h.file w (record { place = omega (arith, h.given.front); size = omega (arith, h.given.small, b) }))
+    (within_more outer h.file w (record { place = omega (arith, h.given.front); size = omega (arith, h.given.small, b) }))
 
 -- ---- steps
 left-append : (items : List OpenFile) (f : OpenFile) → left_of (items ++ f ∷ []) ≡ left_of items + ((length f.bytes.items - f.at) + 1)
@@ -73,22 +73,20 @@ falls_item bounds old new items f item end e b n m =
 one_fetch : (most made width : ℕ) → made < most → (most - made) * width ≡ (most - (made + 1)) * width + width
 one_fetch most made width h = let split : most - made ≡ (most - (made + 1)) + 1 = omega (arith, h) in omega (arith, ap (λ k. k * width) split)
 
-pub falls_entered : (told : Option Files) (bounds : Bounds) (name : Bytes) (chosen : Option NameSet) (old middle new : Reading) (items : List OpenFile) (f : OpenFile) (item : Item) (end : ℕ)
-    → old.files.items ≡ items ++ f ∷ [] → BeginsWithItem (drop f.at f.bytes.items) item (drop end f.bytes.items) → middle.files.items ≡ items ++ record f { at = end } ∷ []
-    → middle.fetches ≡ old.fetches → OpensInside told bounds name chosen middle new → steps_left bounds new < steps_left bounds old
-falls_entered told bounds name chosen old middle new items f item end e b n m h =
+pub falls_entered : (told : Option Files) (bounds : Bounds) (name : Bytes) (AreListed : Option NameSet → Type 0) (old new : Reading) (items : List OpenFile) (f : OpenFile) (item : Item) (end : ℕ)
+    → old.files.items ≡ items ++ f ∷ [] → BeginsWithItem (drop f.at f.bytes.items) item (drop end f.bytes.items)
+    → OpensInside told bounds name AreListed (items ++ record f { at = end } ∷ []) old.fetches new → steps_left bounds new < steps_left bounds old
+falls_entered told bounds name AreListed old new items f item end e b h =
     omega (
       arith,
       ap left_of e,
-      ap left_of n,
       ap left_of h.inside,
       left-append items f,
       left-append items (record f { at = end }),
-      left-append middle.files.items h.file,
+      left-append (items ++ record f { at = end } ∷ []) h.file,
       later f item end b,
       h.given.small,
       h.given.front,
-      ap (λ k. (bounds.fetches - k) * (bounds.file + 2)) m,
       ap (λ k. (bounds.fetches - k) * (bounds.file + 2)) h.counted,
-      one_fetch bounds.fetches middle.fetches (bounds.file + 2) h.may.few,
+      one_fetch bounds.fetches old.fetches (bounds.file + 2) h.may.few,
     )

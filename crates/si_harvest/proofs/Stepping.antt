@@ -13,7 +13,6 @@ use Rattle.si_state.specs.Harvest.{Files, Bounds, foreign, malformed, ReadingPoi
 use Rattle.si_parse.specs.Reading.{IsItemRead, IsFault, IsRead}
 use Rattle.si_parse.specs.declared.item.Read.{Read}
 use Rattle.si_harvest.specs.declared.files.OpenFile.{OpenFile}
-use Rattle.si_harvest.specs.declared.names.NameSet.{NameSet}
 use Rattle.si_harvest.specs.declared.reading.Reading.{Reading}
 use Rattle.si_harvest.specs.declared.faults.HarvestFault.{HarvestFault}
 use Rattle.si_harvest.specs.declared.faults.HarvestFault.TheVariants.{Memory, Syntax, Language}
@@ -69,14 +68,14 @@ module _ (told : Option Files) (bounds : Bounds) (rules : Rules) where
     still_fetched told bounds rules start file old state made same u,
   )
 
-  pub step_include : (old middle new : Reading) (state : List Clause) (items : List OpenFile) (f : OpenFile) (end : ℕ) (name : Bytes) (selection : Selection) (chosen : Option NameSet)
-      → old.files.items ≡ items ++ f ∷ [] → IsItemRead f.bytes.items f.at (include_item name selection) end → Lists selection chosen
-      → middle.files.items ≡ items ++ record f { at = end } ∷ [] → middle.fetches ≡ old.fetches → OpensInside told bounds name chosen middle new
+  pub step_include : (old new : Reading) (state : List Clause) (items : List OpenFile) (f : OpenFile) (end : ℕ) (name : Bytes) (selection : Selection)
+      → old.files.items ≡ items ++ f ∷ [] → IsItemRead f.bytes.items f.at (include_item name selection) end
+      → OpensInside told bounds name (Lists selection) (items ++ record f { at = end } ∷ []) old.fetches new
       → bounds.file ≤ MOST_OCCURRENCES → AreWithin old.files.items → StepsOn told bounds rules old new state state
-  step_include old middle new state items f end name selection chosen e r l n m h b w = record {
-    underway = λ start file u. enters told bounds rules start file old middle new state items f end name selection chosen e r.begins l n m h u;
-    within = within_entered told bounds name chosen middle new b h (subst AreWithin (sym n) (within_moved items f end (subst AreWithin e w) r.within));
-    falls = falls_entered told bounds name chosen old middle new items f (include_item name selection) end e r.begins n m h;
+  step_include old new state items f end name selection e r h b w = record {
+    underway = λ start file u. enters told bounds rules start file old new state items f end name selection e r.begins h u;
+    within = within_entered told bounds name (Lists selection) (items ++ record f { at = end } ∷ []) old.fetches new b h (within_moved items f end (subst AreWithin e w) r.within);
+    falls = falls_entered told bounds name (Lists selection) old new items f (include_item name selection) end e r.begins h;
   }
 
   pub step_unopened : (old : Reading) (state : List Clause) (items : List OpenFile) (f : OpenFile) (end : ℕ) (name : Bytes) (selection : Selection) (made : ℕ) (x : HarvestFault)

@@ -10,7 +10,7 @@ use Rattle.si_state.specs.Harvest.{Bounds, MayAsk, IsBarred, Fault, cycle, too_d
 use Rattle.si_term.specs.Meaning.{clause_of}
 use Rattle.si_io.specs.Counts.{raised}
 use Rattle.si_io.specs.Library.{Counts, faults_in}
-use Rattle.si_io.specs.Shown.{LibraryShown}
+use Rattle.si_io.specs.Shown.{LibraryShown, KeepsFiles}
 use Rattle.si_sign.specs.Shapes.{HasShapes}
 use Rattle.si_sign.specs.declared.faults.Rejected.{Rejected}
 use Rattle.si_sign.specs.declared.faults.AddFault.{AddFault}
@@ -91,3 +91,10 @@ HasLoadCause may_fail before now (Err fault) = HasFaultCause may_fail before now
 abbrev pub CountsCause : {T : Type 0} → LibraryShown → LibraryShown → Result T HarvestFault → Type 0
 CountsCause before now result =
     HasLoadCause before.may_fail (faults_in before.counts) (faults_in now.counts) result
+
+-- What a load makes of a library: it tells the same files as before and may fail where it might
+-- before, and what it counted is the cause of the fault, if there is one.
+pub record UsesLibrary {T : Type 0} (before now : LibraryShown) (result : Result T HarvestFault)
+    : Type 0 where
+  pub keeps : KeepsFiles before now
+  pub cause : CountsCause before now result

@@ -7,6 +7,10 @@ use Rattle.si_state.specs.States.{Rules}
 use Rattle.si_state.specs.Harvest.{Files, Bounds, Event, tried, fetches, Loads, AreAccepted}
 use Rattle.si_harvest.specs.declared.faults.Loaded.{Loaded}
 
+-- nothing is counted
+abbrev pub nothing_loaded : Loaded
+nothing_loaded = record { clauses = 0; entries = 0 }
+
 -- no more is counted than is kept
 pub record CountsNoMore (loaded : Loaded) (kept : List Clause) : Type 0 where
   pub clauses : loaded.clauses ≤ loaded.entries
@@ -22,10 +26,14 @@ pub record Gained (rules : Rules) (start : List Clause) (loaded : Loaded)
   pub clauses : loaded.clauses ≡ length gained
   pub entries : loaded.entries ≡ length (state_entries gained)
 
--- what a load has gained from any start on, with what is now kept and counted too
-abbrev pub GainsOn : Rules → Loaded → List Clause → Loaded → List Clause → Type 0
-GainsOn rules loaded kept loaded_now kept_now = (start : List Clause)
-    → Gained rules start loaded kept → Gained rules start loaded_now kept_now
+-- What is kept and counted goes on by some clauses, or none: the rules stay, no more is counted
+-- than is kept, and what a load had gained from any start on, it has gained with these.
+pub record GainsOn (rules rules_now : Rules) (kept kept_now : List Clause)
+    (loaded loaded_now : Loaded) : Type 0 where
+  pub same : rules_now ≡ rules
+  pub counted : CountsNoMore loaded_now kept_now
+  pub gained : (start : List Clause)
+      → Gained rules start loaded kept → Gained rules start loaded_now kept_now
 
 -- after a load of the file and so many fetches these clauses are kept, and there is no fault
 abbrev pub GainsByLoad : Option Files → Bounds → Rules → List Clause → Bytes → (made : ℕ)

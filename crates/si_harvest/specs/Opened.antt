@@ -1,5 +1,5 @@
 -- The files that are open, and where their reading stands.
-use Rattle.std.specs.Prelude.{◌≡◌, ℕ, ◌+◌, ◌≤◌, ◌⊎◌, Bool, true, false, List, [], ◌∷◌, ◌++◌, length, map, reverse, Option, None, Some, IfSome, bytes_eq}
+use Rattle.std.specs.Prelude.{◌≡◌, ℕ, ◌+◌, ◌≤◌, ◌⊎◌, Bool, true, false, List, [], ◌∷◌, ◌++◌, length, map, reverse, Option, None, Some, IfSome, bytes_eq, Result, OnOk, IfErr}
 use Rattle.std.specs.List.{list_any, list_all}
 use Rattle.si_defs.specs.Bytes.{Bytes}
 use Rattle.si_defs.specs.Clauses.{Name, Clause}
@@ -10,7 +10,9 @@ use Rattle.si_steps.specs.Loads.{fetches_made}
 use Rattle.si_harvest.specs.declared.files.OpenFile.{OpenFile}
 use Rattle.si_harvest.specs.declared.names.NameSet.{NameSet}
 use Rattle.si_harvest.specs.declared.reading.Reading.{Reading}
+use Rattle.si_harvest.specs.declared.faults.HarvestFault.{HarvestFault}
 use Rattle.si_harvest.specs.Chosen.{holds}
+use Rattle.si_harvest.specs.Faults.{NamesWhy}
 
 abbrev pub file_names : List OpenFile → List Bytes
 file_names files = map (λ f. f.name) files
@@ -40,14 +42,17 @@ pub record HasOpened (told : Option Files) (bounds : Bounds) (name : Bytes)
   pub front : file.at ≡ 0
   pub selects : file.chosen ≡ chosen
 
--- a file is open inside the others, after one fetch more
+-- a file is open inside these, after one fetch more, with names of which this holds
 pub record OpensInside (told : Option Files) (bounds : Bounds) (name : Bytes)
-    (chosen : Option NameSet) (before after : Reading) : Type 0 where
-  pub may : MayAsk bounds (opened before.files.items) before.fetches name
+    (AreListed : Option NameSet → Type 0) (outer : List OpenFile) (made : ℕ) (after : Reading)
+    : Type 0 where
+  pub may : MayAsk bounds (opened outer) made name
   pub file : OpenFile
+  pub chosen : Option NameSet
+  pub listed : AreListed chosen
   pub given : HasOpened told bounds name chosen file
-  pub inside : after.files.items ≡ before.files.items ++ file ∷ []
-  pub counted : after.fetches ≡ before.fetches + 1
+  pub inside : after.files.items ≡ outer ++ file ∷ []
+  pub counted : after.fetches ≡ made + 1
 
 -- Why it can't be opened inside these, after so many fetches: it may not be asked for, or one more
 -- was made.
@@ -62,6 +67,16 @@ IsUnopened told bounds name outer before made fault =
 abbrev pub FetchesOnce : Bounds → Bytes → List OpenFile → (before made : ℕ) → Type 0
 FetchesOnce bounds name outer before made =
     (made ≡ before) ⊎ (MayAsk bounds (opened outer) before name × (made ≡ before + 1))
+
+-- A file is opened inside these, after so many fetches, or the fault names why it can't be, or
+-- memory ran out. At most one fetch more is made.
+pub record Enters {T : Type 0} (told : Option Files) (bounds : Bounds) (name : Bytes)
+    (AreListed : Option NameSet → Type 0) (outer : List OpenFile) (before : ℕ) (after : Reading)
+    (result : Result T HarvestFault) : Type 0 where
+  pub entered : OnOk result (OpensInside told bounds name AreListed outer before after)
+  pub unopened : IfErr result (λ e. (rules : Rules)
+      → NamesWhy rules e (IsUnopened told bounds name outer before after.fetches))
+  pub once : FetchesOnce bounds name outer before after.fetches
 
 -- The clause was passed over where the selections don't all list it, and else it was accepted.
 abbrev pub TriesClause : Rules → List OpenFile → Clause → List Clause → List Clause → Type 0

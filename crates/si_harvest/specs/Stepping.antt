@@ -5,6 +5,7 @@ use Rattle.si_defs.specs.Clauses.{Clause}
 use Rattle.si_state.specs.States.{Rules}
 use Rattle.si_state.specs.Harvest.{Files, Bounds}
 use Rattle.si_io.specs.Counts.{raised_by}
+use Rattle.si_io.specs.Shown.{LibraryShown}
 use Rattle.si_harvest.specs.declared.reading.Reading.{Reading}
 use Rattle.si_harvest.specs.declared.faults.HarvestFault.{HarvestFault}
 use Rattle.si_harvest.specs.Faults.{NamesWhy}
@@ -12,10 +13,11 @@ use Rattle.si_harvest.specs.Opened.{HasFault, HasFetched}
 use Rattle.si_harvest.specs.Underway.{IsUnderway, AreWithin, steps_left}
 
 -- The library was called once for each fetch in between, and no more were made than there may be.
-pub record FetchesOn (most made now calls calls_now : ℕ) : Type 0 where
-  pub later : made ≤ now
-  pub counted : (first : ℕ) → calls ≡ raised_by made first → calls_now ≡ raised_by now first
-  pub few : made ≤ most → now ≤ most
+pub record FetchesOn (most : ℕ) (old new : Reading) (before now : LibraryShown) : Type 0 where
+  pub later : old.fetches ≤ new.fetches
+  pub counted : (first : ℕ) → before.counts.calls ≡ raised_by old.fetches first
+      → now.counts.calls ≡ raised_by new.fetches first
+  pub few : old.fetches ≤ most → new.fetches ≤ most
 
 -- each load that is under way stays so, and less is left to read
 pub record StepsOn (told : Option Files) (bounds : Bounds) (rules : Rules) (old new : Reading)

@@ -6,8 +6,7 @@ ghost use Rattle.si_state.specs.Harvest.{MayAsk, IsBarred, IsWithheld};
 ghost use Rattle.si_term.specs.Meaning.{name_of};
 ghost use Rattle.si_io.specs.Counts.{raised};
 ghost use Rattle.si_io.specs.Library.{Counts};
-ghost use Rattle.si_io.specs.Shown.{KeepsFiles};
-ghost use Rattle.si_harvest.specs.Faults.{NamesWhy, HasLoadCause, CountsCause, bounds_of};
+ghost use Rattle.si_harvest.specs.Faults.{NamesWhy, HasLoadCause, UsesLibrary, bounds_of};
 ghost use Rattle.si_harvest.specs.Opened.{HasOpened, opened, has_open, lists, is_selected};
 
 use crate::faults::{HarvestFault, HarvestLimits};
@@ -95,8 +94,7 @@ pub fn open<L: Library>(
     ensures withheld { IfErr result (λ e. (rules : Rules) → NamesWhy rules e (λ fault. IfSome
         (L.shown library.old).files
         (λ files. IsWithheld files (bounds_of limits.now) name fault))) }
-    ensures library { KeepsFiles (L.shown library.old) (L.shown library.new) }
-    ensures cause { CountsCause (L.shown library.old) (L.shown library.new) result }
+    ensures library { UsesLibrary (L.shown library.old) (L.shown library.new) result }
     ensures once { (L.shown library.new).counts.calls
         ≡ raised (L.shown library.old).counts.calls }
 {

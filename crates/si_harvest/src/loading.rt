@@ -2,8 +2,8 @@
 ghost use Rattle.std.specs.Prelude.{◌≡◌, ◌≤◌, IfOk, OnErr};
 ghost use Rattle.si_defs.specs.declared.TheConstants.{MOST_OCCURRENCES};
 ghost use Rattle.si_io.specs.Shown.{KeepsFiles};
-ghost use Rattle.si_harvest.specs.Faults.{ChecksStart, CountsCause, bounds_of};
-ghost use Rattle.si_harvest.specs.Gains.{CountsNoMore, Gained};
+ghost use Rattle.si_harvest.specs.Faults.{ChecksStart, CountsCause, UsesLibrary, bounds_of};
+ghost use Rattle.si_harvest.specs.Gains.{Gained, nothing_loaded};
 ghost use Rattle.si_harvest.specs.Loading.{ReadsFiles};
 
 use crate::faults::{HarvestFault, HarvestLimits, Loaded};
@@ -50,6 +50,7 @@ pub fn expand<L: Library, T: ClauseStore>(
 }
 
 /// Reads a file and what it includes, up to the first fault.
+#[tactic(auto, using(crate::proofs::Gaining::loads))]
 fn read_all<L: Library, T: ClauseStore>(
     alloc: Global,
     library: &mut L,
@@ -60,9 +61,7 @@ fn read_all<L: Library, T: ClauseStore>(
 ) -> Result<(), HarvestFault>
     requires file { limits.now.file ≤ MOST_OCCURRENCES }
     requires limit { (T.rules store.old).entries ≤ MOST_OCCURRENCES }
-    requires counted { CountsNoMore loaded.old (T.clauses store.old) }
-    requires gained { Gained (T.rules store.old) (T.clauses store.old) loaded.old
-        (T.clauses store.old) }
+    requires nothing { loaded.old ≡ nothing_loaded }
     ensures reads { ReadsFiles (L.shown library.old).files (bounds_of limits.now)
         (T.rules store.old) name.now result (T.clauses store.old) (T.clauses store.new)
         (L.shown library.old).counts.calls (L.shown library.new).counts.calls }
@@ -70,8 +69,7 @@ fn read_all<L: Library, T: ClauseStore>(
     ensures gained { Gained (T.rules store.old) (T.clauses store.old) loaded.new
         (T.clauses store.new) }
     ensures rules { T.rules store.new ≡ T.rules store.old }
-    ensures library { KeepsFiles (L.shown library.old) (L.shown library.new) }
-    ensures cause { CountsCause (L.shown library.old) (L.shown library.new) result }
+    ensures library { UsesLibrary (L.shown library.old) (L.shown library.new) result }
 {
     let mut reading = Reading::new(alloc);
     reading.enter(alloc, library, limits, name, None)?;

@@ -1,16 +1,12 @@
 // The reading of files, item by item.
-ghost use Rattle.std.specs.Prelude.{◌≡◌, ◌≤◌, true, [], ◌∷◌, ◌++◌, Option, IfOk, IfErr, OnOk};
+ghost use Rattle.std.specs.Prelude.{◌≡◌, ◌≤◌, true, [], ◌∷◌, ◌++◌, IfOk, IfErr, OnOk};
 ghost use Rattle.si_defs.specs.Clauses.{IsSoundClause};
 ghost use Rattle.si_defs.specs.declared.TheConstants.{MOST_OCCURRENCES};
-ghost use Rattle.si_state.specs.States.{Rules};
 ghost use Rattle.si_state.specs.Harvest.{IsRejected};
-ghost use Rattle.si_io.specs.Shown.{KeepsFiles};
 ghost use Rattle.si_term.specs.Meaning.{clause_of};
-ghost use Rattle.si_harvest.specs.declared.names.NameSet.{NameSet};
-ghost use Rattle.si_harvest.specs.declared.reading.Reading.{Reading};
 ghost use Rattle.si_parse.specs.Meaning.{selection_of};
-ghost use Rattle.si_harvest.specs.Faults.{NamesWhy, CountsCause, bounds_of};
-ghost use Rattle.si_harvest.specs.Opened.{OpensInside, IsUnopened, FetchesOnce, TriesClause, is_selected};
+ghost use Rattle.si_harvest.specs.Faults.{NamesWhy, UsesLibrary, bounds_of};
+ghost use Rattle.si_harvest.specs.Opened.{Enters, TriesClause, is_selected};
 ghost use Rattle.si_harvest.specs.Stepping.{FetchesOn, StepsReading};
 ghost use Rattle.si_harvest.specs.Gains.{CountsNoMore, GainsOn};
 ghost use Rattle.si_harvest.specs.Underway.{AreWithin, Lists};
@@ -55,17 +51,11 @@ impl Reading {
         name: &[u8],
         chosen: Option<NameSet>,
     ) -> Result<(), HarvestFault>
-        ensures entered { OnOk result (OpensInside (L.shown library.old).files
-            (bounds_of limits.now) name.now chosen self.old self.new) }
-        ensures unopened { IfErr result (λ e. (rules : Rules) → NamesWhy rules e (IsUnopened
-            (L.shown library.old).files (bounds_of limits.now) name.now self.old.files.items
-            self.old.fetches self.new.fetches)) }
-        ensures once { FetchesOnce (bounds_of limits.now) name.now self.old.files.items
-            self.old.fetches self.new.fetches }
-        ensures library { KeepsFiles (L.shown library.old) (L.shown library.new) }
-        ensures cause { CountsCause (L.shown library.old) (L.shown library.new) result }
-        ensures fetches { FetchesOn limits.now.fetches self.old.fetches self.new.fetches
-            (L.shown library.old).counts.calls (L.shown library.new).counts.calls }
+        ensures enters { Enters (L.shown library.old).files (bounds_of limits.now) name.now
+            (λ names. names ≡ chosen) self.old.files.items self.old.fetches self.new result }
+        ensures library { UsesLibrary (L.shown library.old) (L.shown library.new) result }
+        ensures fetches { FetchesOn limits.now.fetches self.old self.new (L.shown library.old)
+            (L.shown library.new) }
     {
         may_ask(alloc, self.files.as_slice(), self.fetches, limits, name)?;
         let file_name = Text::from_bytes(alloc, name)?;
@@ -101,10 +91,8 @@ impl Reading {
         ensures refused { IfErr result (λ e. NamesWhy (T.rules store.old) e (λ fault.
             (is_selected (self.old.files.items ++ file ∷ []) (clause_of clause).name ≡ true)
             × IsRejected (T.rules store.old) (T.clauses store.old) (clause_of clause) fault)) }
-        ensures counted { CountsNoMore loaded.new (T.clauses store.new) }
-        ensures gained { GainsOn (T.rules store.old) loaded.old (T.clauses store.old) loaded.new
-            (T.clauses store.new) }
-        ensures rules { T.rules store.new ≡ T.rules store.old }
+        ensures gains { GainsOn (T.rules store.old) (T.rules store.new) (T.clauses store.old)
+            (T.clauses store.new) loaded.old loaded.new }
     {
         self.push(file)?;
         if !select(self.files.as_slice(), &clause.name) {
@@ -124,21 +112,12 @@ impl Reading {
         name: &[u8],
         selection: &Selection,
     ) -> Result<(), HarvestFault>
-        ensures entered { OnOk result ((chosen : Option NameSet) × (middle : Reading)
-            × Lists (selection_of selection.now) chosen
-            × (middle.files.items ≡ self.old.files.items ++ file ∷ [])
-            × (middle.fetches ≡ self.old.fetches)
-            × OpensInside (L.shown library.old).files (bounds_of limits.now) name.now chosen middle
-            self.new) }
-        ensures unopened { IfErr result (λ e. (rules : Rules) → NamesWhy rules e (IsUnopened
-            (L.shown library.old).files (bounds_of limits.now) name.now
-            (self.old.files.items ++ file ∷ []) self.old.fetches self.new.fetches)) }
-        ensures once { FetchesOnce (bounds_of limits.now) name.now
-            (self.old.files.items ++ file ∷ []) self.old.fetches self.new.fetches }
-        ensures library { KeepsFiles (L.shown library.old) (L.shown library.new) }
-        ensures cause { CountsCause (L.shown library.old) (L.shown library.new) result }
-        ensures fetches { FetchesOn limits.now.fetches self.old.fetches self.new.fetches
-            (L.shown library.old).counts.calls (L.shown library.new).counts.calls }
+        ensures enters { Enters (L.shown library.old).files (bounds_of limits.now) name.now
+            (Lists (selection_of selection.now)) (self.old.files.items ++ file ∷ [])
+            self.old.fetches self.new result }
+        ensures library { UsesLibrary (L.shown library.old) (L.shown library.new) result }
+        ensures fetches { FetchesOn limits.now.fetches self.old self.new (L.shown library.old)
+            (L.shown library.new) }
     {
         self.push(file)?;
         let chosen = chosen(alloc, selection)?;
@@ -162,14 +141,11 @@ impl Reading {
         ensures stepped { StepsReading (L.shown library.old).files (bounds_of limits.now)
             (T.rules store.old) self.old self.new (T.clauses store.old) (T.clauses store.new)
             result }
-        ensures counted { CountsNoMore loaded.new (T.clauses store.new) }
-        ensures gained { GainsOn (T.rules store.old) loaded.old (T.clauses store.old) loaded.new
-            (T.clauses store.new) }
-        ensures rules { T.rules store.new ≡ T.rules store.old }
-        ensures library { KeepsFiles (L.shown library.old) (L.shown library.new) }
-        ensures cause { CountsCause (L.shown library.old) (L.shown library.new) result }
-        ensures fetches { FetchesOn limits.now.fetches self.old.fetches self.new.fetches
-            (L.shown library.old).counts.calls (L.shown library.new).counts.calls }
+        ensures gains { GainsOn (T.rules store.old) (T.rules store.new) (T.clauses store.old)
+            (T.clauses store.new) loaded.old loaded.new }
+        ensures library { UsesLibrary (L.shown library.old) (L.shown library.new) result }
+        ensures fetches { FetchesOn limits.now.fetches self.old self.new (L.shown library.old)
+            (L.shown library.new) }
     {
         let Some(mut file) = self.files.pop() else {
             return Ok(false);

@@ -28,11 +28,9 @@ pub fn add<T: ClauseStore>(
         (clause_of clause) (T.clauses store.new)) }
     ensures refused { IfErr result (λ e. NamesWhy (T.rules store.old) e
         (IsRejected (T.rules store.old) (T.clauses store.old) (clause_of clause))) }
-    ensures counted { CountsNoMore loaded.new (T.clauses store.new) }
-    ensures gained { GainsOn (T.rules store.old) loaded.old (T.clauses store.old) loaded.new
-        (T.clauses store.new) }
+    ensures gains { GainsOn (T.rules store.old) (T.rules store.new) (T.clauses store.old)
+        (T.clauses store.new) loaded.old loaded.new }
     ensures err { OnErr result (T.clauses store.new ≡ T.clauses store.old) }
-    ensures rules { T.rules store.new ≡ T.rules store.old }
 {
     match store.add(clause) {
         Ok(entries) => {

@@ -5,7 +5,7 @@ ghost use Rattle.si_defs.specs.Tokens.{AreBlanks};
 ghost use Rattle.si_defs.specs.declared.TheConstants.{MOST_OCCURRENCES};
 ghost use Rattle.si_state.specs.Harvest.{AreClauses};
 ghost use Rattle.si_harvest.specs.Faults.{NamesWhy};
-ghost use Rattle.si_harvest.specs.Gains.{CountsNoMore, Gained, GainsOn};
+ghost use Rattle.si_harvest.specs.Gains.{CountsNoMore, Gained, GainsOn, nothing_loaded};
 ghost use Rattle.si_harvest.specs.Texts.{GainsText, RefusesText, RefusesNext, TakesNext};
 
 use crate::faults::{HarvestFault, Loaded};
@@ -49,6 +49,7 @@ pub fn take_text<T: ClauseStore>(
 }
 
 /// Adds the clauses of a text, up to the first that the store rejects.
+#[tactic(auto, using(crate::proofs::Gaining::loads))]
 fn take_all<T: ClauseStore>(
     alloc: Global,
     bytes: &[u8],
@@ -58,9 +59,7 @@ fn take_all<T: ClauseStore>(
     requires short { length bytes.now ≤ MOST_OCCURRENCES }
     requires clauses { (clauses : List defs.Clause) × AreClauses clauses bytes.now }
     requires limit { (T.rules store.old).entries ≤ MOST_OCCURRENCES }
-    requires counted { CountsNoMore loaded.old (T.clauses store.old) }
-    requires gained { Gained (T.rules store.old) (T.clauses store.old) loaded.old
-        (T.clauses store.old) }
+    requires nothing { loaded.old ≡ nothing_loaded }
     ensures taken { OnOk result (GainsText (T.rules store.old) (T.clauses store.old) bytes.now
         loaded.new (T.clauses store.new)) }
     ensures fault { IfErr result (λ e. NamesWhy (T.rules store.old) e (RefusesText
@@ -98,10 +97,8 @@ fn take_next<T: ClauseStore>(
         IfNone next (T.clauses store.new ≡ T.clauses store.old)) }
     ensures fault { IfErr result (λ e. NamesWhy (T.rules store.old) e (RefusesNext
         (T.rules store.old) bytes.now at (T.clauses store.old))) }
-    ensures counted { CountsNoMore loaded.new (T.clauses store.new) }
-    ensures gained { GainsOn (T.rules store.old) loaded.old (T.clauses store.old) loaded.new
-        (T.clauses store.new) }
-    ensures rules { T.rules store.new ≡ T.rules store.old }
+    ensures gains { GainsOn (T.rules store.old) (T.rules store.new) (T.clauses store.old)
+        (T.clauses store.new) loaded.old loaded.new }
 {
     match next_item(alloc, bytes, at)? {
         Read::Cnf(clause, end) => {

@@ -1,10 +1,11 @@
-use Rattle.std.proofs.Common.{None, [], refl, sym, subst, inr, arith}
+use Rattle.std.proofs.Common.{◌≡◌, None, [], refl, sym, subst, inr, arith}
 use Rattle.si_state.specs.Harvest.{IsBarred}
 use Rattle.si_harvest.specs.Faults.{NamesWhy, bounds_of}
 use Rattle.si_harvest.specs.Gains.{GainsByLoad}
 use Rattle.si_harvest.specs.Opened.{HasFetched}
 use Rattle.si_harvest.specs.Underway.{AreWithin}
 use Rattle.si_harvest.proofs.Errors.{why_weaker, err_has, reads_fault}
+use Rattle.si_harvest.proofs.Gaining.{gained_nothing, counts_nothing}
 use Rattle.si_harvest.proofs.Fetching.{none_counted, first_fetch, further_fetch}
 use Rattle.si_harvest.proofs.Moves.{begins, may_begin, never_begins, first_fetched, may_not_begin, is_over}
 use Rattle.si_harvest.proofs.Safety.{within_entered}
@@ -19,11 +20,11 @@ returns-in_err-enter-clause-reads g c =
     let start = g.T.ClauseStore.clauses c.args.store.now in
     reads_fault told bounds rules c.args.name.now c.from_residual.result c.in_err-enter.field-0.0 start _ _ _ c.enter.new.self.fetches c.from_residual.ensures.1
     (c.enter.ensures.fetches.counted _ (none_counted _ _ c.new-reading.ensures.fetches))
-    (first_fetch bounds c.args.name.now c.new-reading.result c.enter.new.self c.new-reading.ensures.files c.new-reading.ensures.fetches c.enter.ensures.fetches.few c.enter.ensures.once)
-    (first_fetched told bounds rules start c.args.name.now c.new-reading.result c.enter.new.self.fetches c.new-reading.ensures.files c.new-reading.ensures.fetches c.enter.ensures.once)
+    (first_fetch bounds c.args.name.now c.new-reading.result c.enter.new.self c.new-reading.ensures.files c.new-reading.ensures.fetches c.enter.ensures.fetches.few c.enter.ensures.enters.once)
+    (first_fetched told bounds rules start c.args.name.now c.new-reading.result c.enter.new.self.fetches c.new-reading.ensures.files c.new-reading.ensures.fetches c.enter.ensures.enters.once)
     (why_weaker rules c.in_err-enter.field-0.0 _ _
     (λ fault h. never_begins told bounds rules start c.args.name.now c.new-reading.result c.enter.new.self.fetches fault c.new-reading.ensures.files c.new-reading.ensures.fetches h)
-    (c.in_err-enter.ensures.unopened rules))
+    (c.in_err-enter.ensures.enters.unopened rules))
 
 pub returns-in_err-enter-clause-start : goal.returns-in_err-enter-clause-start
 returns-in_err-enter-clause-start g c = λ never.
@@ -34,7 +35,7 @@ returns-in_err-enter-clause-start g c = λ never.
     err_has c.from_residual.result c.in_err-enter.field-0.0 (λ e. NamesWhy rules e (IsBarred bounds [] 0 c.args.name.now)) c.from_residual.ensures.1
     (why_weaker rules c.in_err-enter.field-0.0 _ _
     (λ fault h. may_not_begin told bounds rules start c.args.name.now c.new-reading.result c.enter.new.self.fetches fault c.new-reading.ensures.files c.new-reading.ensures.fetches never h)
-    (c.in_err-enter.ensures.unopened rules))
+    (c.in_err-enter.ensures.enters.unopened rules))
 
 pub loop-reading-init : goal.loop-reading-init
 loop-reading-init g c =
@@ -43,16 +44,16 @@ loop-reading-init g c =
     record {
       loading = record {
         underway = begins told bounds (g.T.ClauseStore.rules c.args.store.now) (g.T.ClauseStore.clauses c.args.store.now) c.args.name.now c.new-reading.result c.enter.new.self
-            c.new-reading.ensures.files c.new-reading.ensures.fetches c.in_ok-enter.ensures.entered;
-        within = within_entered told bounds c.args.name.now None c.new-reading.result c.enter.new.self c.requires.file c.in_ok-enter.ensures.entered
+            c.new-reading.ensures.files c.new-reading.ensures.fetches c.in_ok-enter.ensures.enters.entered;
+        within = within_entered told bounds c.args.name.now (λ names. names ≡ None) c.new-reading.result.files.items c.new-reading.result.fetches c.enter.new.self c.requires.file c.in_ok-enter.ensures.enters.entered
             (subst AreWithin (sym c.new-reading.ensures.files) tt);
-        counted = c.requires.counted;
-        gained = c.requires.gained;
+        counted = counts_nothing _ c.args.loaded.now c.requires.nothing;
+        gained = gained_nothing _ _ c.args.loaded.now c.requires.nothing;
       };
       may = may_begin told bounds (g.T.ClauseStore.rules c.args.store.now) (g.T.ClauseStore.clauses c.args.store.now) c.args.name.now c.new-reading.result c.enter.new.self
-          c.new-reading.ensures.files c.new-reading.ensures.fetches c.in_ok-enter.ensures.entered;
-      library = c.enter.ensures.library;
-      counts = c.in_ok-enter.ensures.cause;
+          c.new-reading.ensures.files c.new-reading.ensures.fetches c.in_ok-enter.ensures.enters.entered;
+      library = c.enter.ensures.library.keeps;
+      counts = c.in_ok-enter.ensures.library.cause;
       calls = c.enter.ensures.fetches.counted _ (none_counted _ _ c.new-reading.ensures.fetches);
       few = c.enter.ensures.fetches.few (omega (arith, c.new-reading.ensures.fetches));
       rules = refl;

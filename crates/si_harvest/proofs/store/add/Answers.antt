@@ -6,12 +6,12 @@ use Rattle.si_harvest.specs.Faults.{NamesWhy}
 use Rattle.si_harvest.proofs.Gaining.{counts_more, gained_more}
 use Rattle.si_harvest.proofs.store.add.Goals as goal
 
-pub returns-in-Ok-clause-counted : goal.returns-in-Ok-clause-counted
-returns-in-Ok-clause-counted g c =
-    counts_more c.args.loaded.now _ _ _ (clause_of c.args.clause) c.in-Ok.entries c.requires.sound c.in-Ok.ensures.added c.in-Ok.ensures.entries c.requires.counted
-
-pub returns-in-Ok-clause-gained : goal.returns-in-Ok-clause-gained
-returns-in-Ok-clause-gained g c = λ start h. gained_more c.args.loaded.now _ start _ _ (clause_of c.args.clause) c.in-Ok.entries c.in-Ok.ensures.added c.in-Ok.ensures.entries h
+pub returns-in-Ok-clause-gains : goal.returns-in-Ok-clause-gains
+returns-in-Ok-clause-gains g c = record {
+  same = c.add.ensures.rules;
+  counted = counts_more c.args.loaded.now _ _ _ (clause_of c.args.clause) c.in-Ok.entries c.requires.sound c.in-Ok.ensures.added c.in-Ok.ensures.entries c.requires.counted;
+  gained = λ start h. gained_more c.args.loaded.now _ start _ _ (clause_of c.args.clause) c.in-Ok.entries c.in-Ok.ensures.added c.in-Ok.ensures.entries h;
+}
 
 pub returns-in-Err-clause-refused : goal.returns-in-Err-clause-refused
 returns-in-Err-clause-refused g c =

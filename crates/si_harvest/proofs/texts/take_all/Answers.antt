@@ -28,8 +28,8 @@ loop-end-preserved g c =
     let start = g.T.ClauseStore.clauses c.args.store.now in (
       taking_more rules start c.args.bytes.now c.loop-end.at c.in-Some.end c.loop-end.loaded c.take_next.new.loaded _ _
           (some_next _ rules c.args.bytes.now c.loop-end.at c.in_ok-end.field-0 c.in-Some.end _ _ c.loop-end.invariant.1 c.in-Some.is c.in_ok-end.ensures.taken)
-          c.take_next.ensures.counted (gained_same _ rules start c.loop-end.loaded c.take_next.new.loaded _ _ c.loop-end.invariant.1 (c.take_next.ensures.gained start)) c.loop-end.invariant.0,
-      c.take_next.ensures.rules ∙ c.loop-end.invariant.1,
+          c.take_next.ensures.gains.counted (gained_same _ rules start c.loop-end.loaded c.take_next.new.loaded _ _ c.loop-end.invariant.1 (c.take_next.ensures.gains.gained start)) c.loop-end.invariant.0,
+      c.take_next.ensures.gains.same ∙ c.loop-end.invariant.1,
     )
 
 pub returns-clause-taken : goal.returns-clause-taken
@@ -39,4 +39,4 @@ returns-clause-taken g c =
     taking_ends rules start c.args.bytes.now c.loop-end.at c.loop-end.loaded c.take_next.new.loaded _ _
     (none_next c.in_ok-end.field-0 _ c.in_default.is c.in_ok-end.ensures.blanks)
     (none_next c.in_ok-end.field-0 _ c.in_default.is c.in_ok-end.ensures.ended)
-    (gained_same _ rules start c.loop-end.loaded c.take_next.new.loaded _ _ c.loop-end.invariant.1 (c.take_next.ensures.gained start)) c.loop-end.invariant.0
+    (gained_same _ rules start c.loop-end.loaded c.take_next.new.loaded _ _ c.loop-end.invariant.1 (c.take_next.ensures.gains.gained start)) c.loop-end.invariant.0

@@ -4,6 +4,7 @@ use Rattle.si_parse.specs.Meaning.{selection_of}
 use Rattle.si_harvest.specs.declared.files.OpenFile.{OpenFile}
 use Rattle.si_harvest.specs.Faults.{NamesWhy, bounds_of}
 use Rattle.si_harvest.specs.Opened.{OpensInside, IsUnopened, FetchesOnce}
+use Rattle.si_harvest.specs.Underway.{Lists}
 use Rattle.si_harvest.proofs.Stepping.{read_as, steps_fault, step_end, step_clause, step_refused, step_include, step_unopened, step_foreign, step_malformed}
 use Rattle.si_harvest.proofs.reading.Reading.step.Goals as goal
 
@@ -34,12 +35,11 @@ returns-in_err-take-in-Cnf-clause-stepped g c =
 
 pub returns-in_ok-include-in-Include-clause-stepped : goal.returns-in_ok-include-in-Include-clause-stepped
 returns-in_ok-include-in-Include-clause-stepped g c =
-    let h = c.in_ok-include-in-Include.ensures.entered in
-    step_include (g.L.Library.shown c.args.library.now).files (bounds_of c.args.limits.now) (g.T.ClauseStore.rules c.args.store.now) c.args.self.now h.1 _ _
-    c.pop.new.self.items c.in-Some.file c.in-Include.end c.in-Include.name (selection_of c.in-Include.selection) h.0 c.in-Some.ensures.items
+    let h = c.in_ok-include-in-Include.ensures.enters.entered in
+    step_include (g.L.Library.shown c.args.library.now).files (bounds_of c.args.limits.now) (g.T.ClauseStore.rules c.args.store.now) c.args.self.now _ _
+    c.pop.new.self.items c.in-Some.file c.in-Include.end c.in-Include.name (selection_of c.in-Include.selection) c.in-Some.ensures.items
     (read_as _ _ c.in-Some.file.at _ _ c.as_slice.ensures.value c.in-Include.is c.in_ok-next_item.ensures)
-    h.2 h.3 h.4
-    (subst (λ n. OpensInside (g.L.Library.shown c.args.library.now).files (bounds_of c.args.limits.now) n h.0 h.1 c.include.new.self) c.as_bytes.ensures h.5) c.requires.file c.requires.within
+    (subst (λ n. OpensInside (g.L.Library.shown c.args.library.now).files (bounds_of c.args.limits.now) n (Lists (selection_of c.in-Include.selection)) (moved c.pop.new.self.items c.in-Some.file c.in-Include.end) c.args.self.now.fetches c.include.new.self) c.as_bytes.ensures h) c.requires.file c.requires.within
 
 pub returns-in_err-include-in-Include-clause-stepped : goal.returns-in_err-include-in-Include-clause-stepped
 returns-in_err-include-in-Include-clause-stepped g c =
@@ -51,8 +51,8 @@ returns-in_err-include-in-Include-clause-stepped g c =
     c.include.new.self.fetches c.in_err-include-in-Include.field-0.0 c.in-Some.ensures.items
     (read_as _ _ c.in-Some.file.at _ _ c.as_slice.ensures.value c.in-Include.is c.in_ok-next_item.ensures)
     (subst (λ n. NamesWhy rules c.in_err-include-in-Include.field-0.0 (IsUnopened told (bounds_of c.args.limits.now) n (moved c.pop.new.self.items c.in-Some.file c.in-Include.end) c.args.self.now.fetches c.include.new.self.fetches))
-    c.as_bytes.ensures (c.in_err-include-in-Include.ensures.unopened rules))
-    (subst (λ n. FetchesOnce (bounds_of c.args.limits.now) n (moved c.pop.new.self.items c.in-Some.file c.in-Include.end) c.args.self.now.fetches c.include.new.self.fetches) c.as_bytes.ensures c.include.ensures.once))
+    c.as_bytes.ensures (c.in_err-include-in-Include.ensures.enters.unopened rules))
+    (subst (λ n. FetchesOnce (bounds_of c.args.limits.now) n (moved c.pop.new.self.items c.in-Some.file c.in-Include.end) c.args.self.now.fetches c.include.new.self.fetches) c.as_bytes.ensures c.include.ensures.enters.once))
 
 pub returns-in-Syntax-clause-stepped : goal.returns-in-Syntax-clause-stepped
 returns-in-Syntax-clause-stepped g c =

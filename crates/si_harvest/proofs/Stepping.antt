@@ -9,7 +9,7 @@ use Rattle.si_defs.specs.Grammar.{Selection, clause_item, include_item}
 use Rattle.si_defs.specs.Texts.{IsFaulty, IsForeign, IsPlace, line_of}
 use Rattle.si_defs.specs.declared.TheConstants.{MOST_OCCURRENCES}
 use Rattle.si_state.specs.States.{Rules}
-use Rattle.si_state.specs.Harvest.{Files, Bounds, foreign, malformed, ReadingPoint, IsStuck, IsRejected}
+use Rattle.si_state.specs.Harvest.{Files, Bounds, foreign, malformed, ReadingPoint, IsOnLine, IsStuck, IsRejected}
 use Rattle.si_parse.specs.Reading.{IsItemRead, IsFault, IsRead}
 use Rattle.si_parse.specs.declared.item.Read.{Read}
 use Rattle.si_harvest.specs.declared.files.OpenFile.{OpenFile}
@@ -89,9 +89,9 @@ module _ (told : Option Files) (bounds : Bounds) (rules : Rules) where
   )
 
   -- ---- where no item stands
-  point_stuck : (f : OpenFile) (place : ℕ) (outer : List ReadingPoint) (s : ReadingPoint) → IsFault f.bytes.items f.at place → IsAtPoint f outer s
-      → IsForeign s.rest → IsStuck s (foreign f.name (line_of (take place f.bytes.items)))
-  point_stuck f place outer s r h k = (
+  point_stuck : (f : OpenFile) (place : ℕ) (outer : List ReadingPoint) (s : ReadingPoint) (P : Bytes → Type 0) → IsFault f.bytes.items f.at place → IsAtPoint f outer s → P (drop f.at f.bytes.items)
+      → (f.name ≡ s.file) × IsFaulty s.rest × IsOnLine s (line_of (take place f.bytes.items)) × P s.rest
+  point_stuck f place outer s P r h k = (
     sym h.named,
     subst (λ l. IsFaulty l) (sym h.left) r.faulty,
     (
@@ -101,22 +101,7 @@ module _ (told : Option Files) (bounds : Bounds) (rules : Rules) where
       h.whole ∙ sym (take-append-drop place f.bytes.items),
       refl,
     ),
-    k,
-  )
-
-  point_malformed : (f : OpenFile) (place : ℕ) (outer : List ReadingPoint) (s : ReadingPoint) → IsFault f.bytes.items f.at place → IsAtPoint f outer s
-      → (IsForeign s.rest → ⊥) → IsStuck s (malformed f.name (line_of (take place f.bytes.items)))
-  point_malformed f place outer s r h k = (
-    sym h.named,
-    subst (λ l. IsFaulty l) (sym h.left) r.faulty,
-    (
-      take place f.bytes.items,
-      drop place f.bytes.items,
-      subst (λ l. IsPlace l (drop place f.bytes.items)) (sym h.left) r.behind,
-      h.whole ∙ sym (take-append-drop place f.bytes.items),
-      refl,
-    ),
-    k,
+    subst P (sym h.left) k,
   )
 
   pub step_foreign : (old : Reading) (state : List Clause) (items : List OpenFile) (f : OpenFile) (place line : ℕ) → old.files.items ≡ items ++ f ∷ []
@@ -128,7 +113,7 @@ module _ (told : Option Files) (bounds : Bounds) (rules : Rules) where
       fault = foreign f.name line;
       named = refl;
       holds = is_stuck told bounds rules start file old state items f (foreign f.name line) e
-          (λ s outer h. subst (λ n. IsStuck s (foreign f.name n)) (sym l) (point_stuck f place outer s r.0 h (subst IsForeign (sym h.left) r.1))) u;
+          (λ s outer h. subst (λ n. IsStuck s (foreign f.name n)) (sym l) (point_stuck f place outer s IsForeign r.0 h r.1)) u;
     }),
     u.fetched,
   )
@@ -142,7 +127,7 @@ module _ (told : Option Files) (bounds : Bounds) (rules : Rules) where
       fault = malformed f.name line;
       named = refl;
       holds = is_stuck told bounds rules start file old state items f (malformed f.name line) e
-          (λ s outer h. subst (λ n. IsStuck s (malformed f.name n)) (sym l) (point_malformed f place outer s r.0 h (λ k. r.1 (subst IsForeign h.left k)))) u;
+          (λ s outer h. subst (λ n. IsStuck s (malformed f.name n)) (sym l) (point_stuck f place outer s (λ l. IsForeign l → ⊥) r.0 h r.1)) u;
     }),
     u.fetched,
   )

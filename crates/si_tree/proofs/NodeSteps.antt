@@ -8,7 +8,7 @@ use Rattle.si_flat.specs.Rows.{CellPair}
 use Rattle.si_legal.specs.Trees.{inner}
 use Rattle.si_tree.specs.declared.node.Branches.{Branches}
 use Rattle.si_tree.specs.declared.node.Head.{Head}
-use Rattle.si_tree.specs.declared.node.Place.{Place}
+use Rattle.si_tree.specs.declared.node.Below.{Below}
 use Rattle.si_tree.specs.Dropping.{LosesChild}
 use Rattle.si_tree.specs.Forks.{Forked, fork_children, fork_heads, fork_split}
 use Rattle.si_tree.specs.KeptHeads.{heads_in}
@@ -17,9 +17,9 @@ use Rattle.si_tree.specs.Nodes.{Content, Fork, Inner, TreeNode, content_in, pare
 use Rattle.si_tree.proofs.ChildPlaces.{head_among, child_at}
 use Rattle.si_tree.proofs.PostingLists.{replaced}
 
--- the node that has these bindings and this place
-abbrev pub seen : List CellPair → Place → TreeNode
-seen bindings place = record { parent = parent_in place; bindings = bindings; content = content_in place }
+-- the node that has these bindings, and this below it
+abbrev pub seen : List CellPair → Below → TreeNode
+seen bindings below = record { parent = parent_in below; bindings = bindings; content = content_in below }
 
 -- the node with this content
 abbrev pub with_content : Option ℕ → List CellPair → Content → TreeNode

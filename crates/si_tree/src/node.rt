@@ -86,13 +86,13 @@ pub enum Head {
 #[derive(Drop)]
 pub(crate) struct TreeNode {
     bindings: Bindings,
-    place: Place,
+    below: Below,
 }
 
 /// What stands below a node, and its parent, whose name shares the room of the mark: an inner node
 /// has children, a leaf postings.
 #[derive(Drop)]
-pub(crate) enum Place {
+pub(crate) enum Below {
     /// The children of the root, which has no parent.
     Root(Box<Branches>),
     /// The children of an inner node that never had more than two.
@@ -111,9 +111,9 @@ impl Model for TreeNode {
     ghost Value = { TreeNode };
 
     ghost view = { λ n. record {
-      parent = parent_in n.place;
+      parent = parent_in n.below;
       bindings = n.bindings;
-      content = content_in n.place;
+      content = content_in n.below;
     } };
 }
 
@@ -125,36 +125,36 @@ pub(crate) struct Branches {
     pub(crate) children: Vec<NodeId>,
 }
 
-impl Place {
+impl Below {
     // A leaf with the posting of a slot, if one stands there, and another one.
     fn with_another(
         alloc: Global,
         parent: NodeId,
         slot: Slot,
         posting: Posting,
-    ) -> Result<Place, AllocError>
-        ensures parent { IfOk result (λ place. parent_in place ≡ Some parent) }
-        ensures content { IfOk result (λ place. content_of (content_in place)
+    ) -> Result<Below, AllocError>
+        ensures parent { IfOk result (λ below. parent_in below ≡ Some parent) }
+        ensures content { IfOk result (λ below. content_of (content_in below)
             ≡ leaf (standing (slot ∷ []) ++ posting ∷ [])) }
     {
         if !slot.stands() {
-            return Ok(Place::One(parent, Slot::of(posting)?));
+            return Ok(Below::One(parent, Slot::of(posting)?));
         }
         let postings = PostingList::two(alloc, slot, posting)?;
-        Ok(Place::Many(parent, Box::new(alloc, postings)?))
+        Ok(Below::Many(parent, Box::new(alloc, postings)?))
     }
 
     // The same, below another node.
-    fn below(self, parent: NodeId) -> Place
+    fn put_below(self, parent: NodeId) -> Below
         ensures parent { parent_in result ≡ Some parent }
         ensures content { content_in result ≡ content_in self }
     {
         match self {
-            Place::Root(branches) => Place::Inner(parent, branches),
-            Place::Fork(_, fork) => Place::Fork(parent, fork),
-            Place::Inner(_, branches) => Place::Inner(parent, branches),
-            Place::One(_, slot) => Place::One(parent, slot),
-            Place::Many(_, postings) => Place::Many(parent, postings),
+            Below::Root(branches) => Below::Inner(parent, branches),
+            Below::Fork(_, fork) => Below::Fork(parent, fork),
+            Below::Inner(_, branches) => Below::Inner(parent, branches),
+            Below::One(_, slot) => Below::One(parent, slot),
+            Below::Many(_, postings) => Below::Many(parent, postings),
         }
     }
 
@@ -165,11 +165,11 @@ impl Place {
         ensures none { IfNone result (IsAmong (heads_of (content_in self.now)) head → ⊥) }
     {
         match self {
-            Place::Root(branches) => branches.heads.place(head),
-            Place::Fork(_, fork) => place_of_head(fork.heads(), head),
-            Place::Inner(_, branches) => branches.heads.place(head),
-            Place::One(_, _) => None,
-            Place::Many(_, _) => None,
+            Below::Root(branches) => branches.heads.place(head),
+            Below::Fork(_, fork) => place_of_head(fork.heads(), head),
+            Below::Inner(_, branches) => branches.heads.place(head),
+            Below::One(_, _) => None,
+            Below::Many(_, _) => None,
         }
     }
 
@@ -179,11 +179,11 @@ impl Place {
         ensures content { content_in self.new ≡ with_split split (content_in self.old) }
     {
         match self {
-            Place::Root(branches) => branches.split = split,
-            Place::Fork(_, fork) => fork.renumber(split),
-            Place::Inner(_, branches) => branches.split = split,
-            Place::One(_, _) => (),
-            Place::Many(_, _) => (),
+            Below::Root(branches) => branches.split = split,
+            Below::Fork(_, fork) => fork.renumber(split),
+            Below::Inner(_, branches) => branches.split = split,
+            Below::One(_, _) => (),
+            Below::Many(_, _) => (),
         }
     }
 }
@@ -280,7 +280,7 @@ impl TreeNode {
         let branches = Branches::new(alloc, 0);
         Ok(TreeNode {
             bindings: Bindings::new(alloc),
-            place: Place::Root(Box::new(alloc, branches)?),
+            below: Below::Root(Box::new(alloc, branches)?),
         })
     }
 
@@ -298,7 +298,7 @@ impl TreeNode {
         let fork = Fork::new(split, head, child);
         Ok(TreeNode {
             bindings,
-            place: Place::Fork(parent, Box::new(alloc, fork)?),
+            below: Below::Fork(parent, Box::new(alloc, fork)?),
         })
     }
 
@@ -314,7 +314,7 @@ impl TreeNode {
         let slot = Slot::of(posting)?;
         Ok(TreeNode {
             bindings,
-            place: Place::One(parent, slot),
+            below: Below::One(parent, slot),
         })
     }
 
@@ -322,12 +322,12 @@ impl TreeNode {
     pub(crate) fn parent(&self) -> Option<NodeId>
         ensures { result ≡ self.now.parent }
     {
-        match &self.place {
-            Place::Root(_) => None,
-            Place::Fork(parent, _) => Some(*parent),
-            Place::Inner(parent, _) => Some(*parent),
-            Place::One(parent, _) => Some(*parent),
-            Place::Many(parent, _) => Some(*parent),
+        match &self.below {
+            Below::Root(_) => None,
+            Below::Fork(parent, _) => Some(*parent),
+            Below::Inner(parent, _) => Some(*parent),
+            Below::One(parent, _) => Some(*parent),
+            Below::Many(parent, _) => Some(*parent),
         }
     }
 
@@ -342,12 +342,12 @@ impl TreeNode {
     pub(crate) fn postings(&self) -> Postings<'_>
         ensures { result ≡ postings_of (content_of self.now.content) }
     {
-        match &self.place {
-            Place::Root(_) => Postings::none(),
-            Place::Fork(_, _) => Postings::none(),
-            Place::Inner(_, _) => Postings::none(),
-            Place::One(_, slot) => slot.postings(),
-            Place::Many(_, postings) => postings.all(),
+        match &self.below {
+            Below::Root(_) => Postings::none(),
+            Below::Fork(_, _) => Postings::none(),
+            Below::Inner(_, _) => Postings::none(),
+            Below::One(_, slot) => slot.postings(),
+            Below::Many(_, postings) => postings.all(),
         }
     }
 
@@ -355,12 +355,12 @@ impl TreeNode {
     pub(crate) fn split(&self) -> Option<u32>
         ensures { result ≡ split_of (content_of self.now.content) }
     {
-        match &self.place {
-            Place::Root(branches) => Some(branches.split),
-            Place::Fork(_, fork) => Some(fork.split()),
-            Place::Inner(_, branches) => Some(branches.split),
-            Place::One(_, _) => None,
-            Place::Many(_, _) => None,
+        match &self.below {
+            Below::Root(branches) => Some(branches.split),
+            Below::Fork(_, fork) => Some(fork.split()),
+            Below::Inner(_, branches) => Some(branches.split),
+            Below::One(_, _) => None,
+            Below::Many(_, _) => None,
         }
     }
 
@@ -368,12 +368,12 @@ impl TreeNode {
     pub(crate) fn children(&self) -> &[NodeId]
         ensures { result.now ≡ children_of (content_of self.now.content) }
     {
-        match &self.place {
-            Place::Root(branches) => branches.children.as_slice(),
-            Place::Fork(_, fork) => fork.children(),
-            Place::Inner(_, branches) => branches.children.as_slice(),
-            Place::One(_, _) => Default::default(),
-            Place::Many(_, _) => Default::default(),
+        match &self.below {
+            Below::Root(branches) => branches.children.as_slice(),
+            Below::Fork(_, fork) => fork.children(),
+            Below::Inner(_, branches) => branches.children.as_slice(),
+            Below::One(_, _) => Default::default(),
+            Below::Many(_, _) => Default::default(),
         }
     }
 
@@ -381,12 +381,12 @@ impl TreeNode {
     pub(crate) fn heads(&self) -> &[Head]
         ensures { result.now ≡ heads_of self.now.content }
     {
-        match &self.place {
-            Place::Root(branches) => branches.heads.as_slice(),
-            Place::Fork(_, fork) => fork.heads(),
-            Place::Inner(_, branches) => branches.heads.as_slice(),
-            Place::One(_, _) => Default::default(),
-            Place::Many(_, _) => Default::default(),
+        match &self.below {
+            Below::Root(branches) => branches.heads.as_slice(),
+            Below::Fork(_, fork) => fork.heads(),
+            Below::Inner(_, branches) => branches.heads.as_slice(),
+            Below::One(_, _) => Default::default(),
+            Below::Many(_, _) => Default::default(),
         }
     }
 
@@ -395,12 +395,12 @@ impl TreeNode {
         ensures below { AreVariablesBelow result (heads_of self.now.content) }
         ensures few { result ≤ 2 ^ 32 }
     {
-        match &self.place {
-            Place::Root(branches) => branches.heads.vars(),
-            Place::Fork(_, fork) => beyond_variables(fork.heads()),
-            Place::Inner(_, branches) => branches.heads.vars(),
-            Place::One(_, _) => 0,
-            Place::Many(_, _) => 0,
+        match &self.below {
+            Below::Root(branches) => branches.heads.vars(),
+            Below::Fork(_, fork) => beyond_variables(fork.heads()),
+            Below::Inner(_, branches) => branches.heads.vars(),
+            Below::One(_, _) => 0,
+            Below::Many(_, _) => 0,
         }
     }
 
@@ -410,19 +410,19 @@ impl TreeNode {
             ≡ Some head) }
         ensures none { IfNone result (IsAmong (heads_of self.now.content) head → ⊥) }
     {
-        self.place.child_place(head)
+        self.below.child_place(head)
     }
 
     /// 1 where this is a leaf without a posting, else 0.
     pub(crate) fn unmerged(&self) -> u64
         ensures { result ≡ unmerged_of (content_of self.now.content) }
     {
-        match &self.place {
-            Place::Root(_) => 0,
-            Place::Fork(_, _) => 0,
-            Place::Inner(_, _) => 0,
-            Place::One(_, slot) => u64::from(!slot.stands()),
-            Place::Many(_, postings) => u64::from(postings.all().is_empty()),
+        match &self.below {
+            Below::Root(_) => 0,
+            Below::Fork(_, _) => 0,
+            Below::Inner(_, _) => 0,
+            Below::One(_, slot) => u64::from(!slot.stands()),
+            Below::Many(_, postings) => u64::from(postings.all().is_empty()),
         }
     }
 
@@ -433,20 +433,20 @@ impl TreeNode {
         ensures same { IsSameNode self.old self.new }
         ensures room { OnOk result (HasRoomForChild self.new) }
     {
-        let place = match &mut self.place {
-            Place::Root(branches) => return branches.reserve(alloc),
-            Place::Fork(parent, fork) => {
+        let below = match &mut self.below {
+            Below::Root(branches) => return branches.reserve(alloc),
+            Below::Fork(parent, fork) => {
                 if fork.heads().len() < 2 {
                     return Ok(());
                 }
                 let branches = Branches::of(alloc, fork)?;
-                Place::Inner(*parent, Box::new(alloc, branches)?)
+                Below::Inner(*parent, Box::new(alloc, branches)?)
             }
-            Place::Inner(_, branches) => return branches.reserve(alloc),
-            Place::One(_, _) => unreachable!(),
-            Place::Many(_, _) => unreachable!(),
+            Below::Inner(_, branches) => return branches.reserve(alloc),
+            Below::One(_, _) => unreachable!(),
+            Below::Many(_, _) => unreachable!(),
         };
-        self.place = place;
+        self.below = below;
         Ok(())
     }
 
@@ -456,12 +456,12 @@ impl TreeNode {
         requires new { IsAmong (heads_of self.old.content) head → ⊥ }
         ensures { GainsChild self.old self.new head child }
     {
-        match &mut self.place {
-            Place::Root(branches) => branches.push(head, child),
-            Place::Fork(_, fork) => fork.push(head, child),
-            Place::Inner(_, branches) => branches.push(head, child),
-            Place::One(_, _) => unreachable!(),
-            Place::Many(_, _) => unreachable!(),
+        match &mut self.below {
+            Below::Root(branches) => branches.push(head, child),
+            Below::Fork(_, fork) => fork.push(head, child),
+            Below::Inner(_, branches) => branches.push(head, child),
+            Below::One(_, _) => unreachable!(),
+            Below::Many(_, _) => unreachable!(),
         }
     }
 
@@ -469,19 +469,19 @@ impl TreeNode {
     pub(crate) fn move_below(&mut self, parent: NodeId, bindings: Bindings)
         ensures { self.new ≡ moved_below self.old parent bindings }
     {
-        let place = replace(&mut self.place, Place::One(parent, Slot::vacant()));
-        self.place = place.below(parent);
+        let below = replace(&mut self.below, Below::One(parent, Slot::vacant()));
+        self.below = below.put_below(parent);
         self.bindings = bindings;
     }
 
     /// The node, below another.
-    pub(crate) fn below(self, parent: NodeId) -> TreeNode
+    pub(crate) fn put_below(self, parent: NodeId) -> TreeNode
         ensures { result ≡ moved_below self parent self.bindings }
     {
-        let TreeNode { bindings, place } = self;
+        let TreeNode { bindings, below } = self;
         TreeNode {
             bindings,
-            place: place.below(parent),
+            below: below.put_below(parent),
         }
     }
 
@@ -490,7 +490,7 @@ impl TreeNode {
         ensures { self.new ≡ with_numbers bindings split self.old }
     {
         self.bindings = bindings;
-        self.place.renumber(split);
+        self.below.renumber(split);
     }
 
     /// Puts another child in the place of the one that has this head.
@@ -499,15 +499,15 @@ impl TreeNode {
         ensures { (child : ℕ) → HasChildBy self.old head child
             → RelinksChild self.old self.new child other }
     {
-        let Some(at) = self.place.child_place(head) else {
+        let Some(at) = self.below.child_place(head) else {
             unreachable!()
         };
-        match &mut self.place {
-            Place::Root(branches) => branches.relink(at, other),
-            Place::Fork(_, fork) => fork.relink(at, other),
-            Place::Inner(_, branches) => branches.relink(at, other),
-            Place::One(_, _) => unreachable!(),
-            Place::Many(_, _) => unreachable!(),
+        match &mut self.below {
+            Below::Root(branches) => branches.relink(at, other),
+            Below::Fork(_, fork) => fork.relink(at, other),
+            Below::Inner(_, branches) => branches.relink(at, other),
+            Below::One(_, _) => unreachable!(),
+            Below::Many(_, _) => unreachable!(),
         }
     }
 
@@ -517,21 +517,21 @@ impl TreeNode {
         ensures { (child : ℕ) → HasChildBy self.old head child
             → LosesChild self.old self.new child }
     {
-        match &mut self.place {
-            Place::Root(branches) => {
+        match &mut self.below {
+            Below::Root(branches) => {
                 branches.remove(head);
             }
-            Place::Fork(_, fork) => {
+            Below::Fork(_, fork) => {
                 let Some(at) = place_of_head(fork.heads(), head) else {
                     unreachable!()
                 };
                 fork.remove(at);
             }
-            Place::Inner(_, branches) => {
+            Below::Inner(_, branches) => {
                 branches.remove(head);
             }
-            Place::One(_, _) => unreachable!(),
-            Place::Many(_, _) => unreachable!(),
+            Below::One(_, _) => unreachable!(),
+            Below::Many(_, _) => unreachable!(),
         }
     }
 
@@ -550,14 +550,14 @@ impl TreeNode {
         ensures ok { OnOk result (postings_in self.new ≡ postings_in self.old ++ posting ∷ []) }
         ensures err { OnErr result (postings_in self.new ≡ postings_in self.old) }
     {
-        let place = match &mut self.place {
-            Place::Root(_) => unreachable!(),
-            Place::Fork(_, _) => unreachable!(),
-            Place::Inner(_, _) => unreachable!(),
-            Place::One(parent, slot) => Place::with_another(alloc, *parent, *slot, posting)?,
-            Place::Many(_, postings) => return postings.push(posting),
+        let below = match &mut self.below {
+            Below::Root(_) => unreachable!(),
+            Below::Fork(_, _) => unreachable!(),
+            Below::Inner(_, _) => unreachable!(),
+            Below::One(parent, slot) => Below::with_another(alloc, *parent, *slot, posting)?,
+            Below::Many(_, postings) => return postings.push(posting),
         };
-        self.place = place;
+        self.below = below;
         Ok(())
     }
 
@@ -568,12 +568,12 @@ impl TreeNode {
         ensures stays { IsSameBut self.old self.new }
         ensures dropped { IsWithout (postings_in self.old) posting (postings_in self.new) }
     {
-        match &mut self.place {
-            Place::Root(_) => unreachable!(),
-            Place::Fork(_, _) => unreachable!(),
-            Place::Inner(_, _) => unreachable!(),
-            Place::One(_, slot) => slot.empty(),
-            Place::Many(_, postings) => postings.remove(posting),
+        match &mut self.below {
+            Below::Root(_) => unreachable!(),
+            Below::Fork(_, _) => unreachable!(),
+            Below::Inner(_, _) => unreachable!(),
+            Below::One(_, slot) => slot.empty(),
+            Below::Many(_, postings) => postings.remove(posting),
         }
     }
 }

@@ -334,7 +334,7 @@ fn put_between(
     let fork_id = NodeId {
         key: fork_key as u32,
     };
-    let leaf_key = nodes.insert_reserved(leaf.below(fork_id));
+    let leaf_key = nodes.insert_reserved(leaf.put_below(fork_id));
     let leaf_id = NodeId {
         key: leaf_key as u32,
     };

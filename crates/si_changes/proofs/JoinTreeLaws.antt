@@ -34,29 +34,29 @@ module _ (old new : Tree Term) (key other : ℕ) (legal : IsLegal old) (may : Ma
   nodes = legal_nodes old legal
 
   abbrev parent : ℕ
-  parent = may.parent
+  parent = may.stands.parent
 
   abbrev above : ℕ
   above = joins.above
 
   -- the bindings of the two nodes that are joined
   abbrev first : List Binding
-  first = may.parent_node.bindings
+  first = may.stands.parent_node.bindings
 
   abbrev second : List Binding
   second = joins.other_node.bindings
 
-  parent_legal : IsLegalNode old parent may.parent_node
-  parent_legal = legal.nodes parent may.parent_node may.is_parent
+  parent_legal : IsLegalNode old parent may.stands.parent_node
+  parent_legal = legal.nodes parent may.stands.parent_node may.stands.is_parent
 
   abbrev upper : Path
   upper = parent_legal.above
 
-  parent_content : IsLegalContent old parent ((parent, may.parent_node) ∷ upper) (inner may.split may.children)
-  parent_content = subst (IsLegalContent old parent ((parent, may.parent_node) ∷ upper)) may.inner_node parent_legal.content
+  parent_content : IsLegalContent old parent ((parent, may.stands.parent_node) ∷ upper) (inner may.stands.split may.stands.children)
+  parent_content = subst (IsLegalContent old parent ((parent, may.stands.parent_node) ∷ upper)) may.stands.inner_node parent_legal.content
 
   other_child : IsChild old parent other
-  other_child = (parent_content.1 other).0 (permuted_among (key ∷ other ∷ []) may.children other may.two (inr (inl refl)))
+  other_child = (parent_content.1 other).0 (permuted_among (key ∷ other ∷ []) may.stands.children other may.two (inr (inl refl)))
 
   other_below : joins.other_node.parent ≡ Some parent
   other_below = ap (λ n. n.parent) (sym (one_node old other other_child.0 joins.other_node other_child.1 joins.was_below)) ∙ other_child.2
@@ -64,10 +64,10 @@ module _ (old new : Tree Term) (key other : ℕ) (legal : IsLegal old) (may : Ma
   same_parent : joins.parent ≡ parent
   same_parent = same_Some joins.parent parent (sym joins.child_of ∙ other_below)
 
-  same_node : joins.parent_node ≡ may.parent_node
-  same_node = one_node old parent joins.parent_node may.parent_node (subst (λ k. HasNode old k joins.parent_node) same_parent joins.was_parent) may.is_parent
+  same_node : joins.parent_node ≡ may.stands.parent_node
+  same_node = one_node old parent joins.parent_node may.stands.parent_node (subst (λ k. HasNode old k joins.parent_node) same_parent joins.was_parent) may.stands.is_parent
 
-  below_above : may.parent_node.parent ≡ Some above
+  below_above : may.stands.parent_node.parent ≡ Some above
   below_above = ap (λ n. n.parent) (sym same_node) ∙ joins.below_parent
 
   abbrev joined_of : Node Term
@@ -89,37 +89,37 @@ module _ (old new : Tree Term) (key other : ℕ) (legal : IsLegal old) (may : Ma
   upper_reached : IsPath old (Some above) upper
   upper_reached = subst (λ k. IsPath old k upper) below_above parent_legal.reached
 
-  parent_reached : IsPath old (Some parent) ((parent, may.parent_node) ∷ upper)
-  parent_reached = (refl, may.is_parent, parent_legal.reached)
+  parent_reached : IsPath old (Some parent) ((parent, may.stands.parent_node) ∷ upper)
+  parent_reached = (refl, may.stands.is_parent, parent_legal.reached)
 
-  other_reached : IsPath old (Some other) ((other, joins.other_node) ∷ (parent, may.parent_node) ∷ upper)
-  other_reached = (refl, joins.was_below, subst (λ k. IsPath old k ((parent, may.parent_node) ∷ upper)) (sym other_below) parent_reached)
+  other_reached : IsPath old (Some other) ((other, joins.other_node) ∷ (parent, may.stands.parent_node) ∷ upper)
+  other_reached = (refl, joins.was_below, subst (λ k. IsPath old k ((parent, may.stands.parent_node) ∷ upper)) (sym other_below) parent_reached)
 
   upper_starts : PassesBy upper above
   upper_starts = passes_start old above upper upper_reached
 
   above_not_parent : above ≢ parent
-  above_not_parent e = no_return old parent may.parent_node upper parent_reached (subst (PassesBy upper) e upper_starts)
+  above_not_parent e = no_return old parent may.stands.parent_node upper parent_reached (subst (PassesBy upper) e upper_starts)
 
   above_not_other : above ≢ other
-  above_not_other e = no_return old other joins.other_node ((parent, may.parent_node) ∷ upper) other_reached (inr (subst (PassesBy upper) e upper_starts))
+  above_not_other e = no_return old other joins.other_node ((parent, may.stands.parent_node) ∷ upper) other_reached (inr (subst (PassesBy upper) e upper_starts))
 
   other_not_parent : other ≢ parent
-  other_not_parent e = no_return old other joins.other_node ((parent, may.parent_node) ∷ upper) other_reached (inl (sym e))
+  other_not_parent e = no_return old other joins.other_node ((parent, may.stands.parent_node) ∷ upper) other_reached (inl (sym e))
 
   -- an inner node isn't the leaf
   inner_not_key : (k split : ℕ) (n : Node Term) (children : List ℕ) → HasNode old k n → n.content ≡ inner split children → k ≢ key
   inner_not_key k split n children has is e =
-      inner_no_leaf split children [] (sym is ∙ ap (λ m. m.content) (one_node old key n may.node (subst (λ j. HasNode old j n) e has) may.is_leaf) ∙ may.empty)
+      inner_no_leaf split children [] (sym is ∙ ap (λ m. m.content) (one_node old key n may.stands.node (subst (λ j. HasNode old j n) e has) may.stands.has) ∙ may.empty)
 
   parent_not_key : parent ≢ key
-  parent_not_key = inner_not_key parent may.split may.parent_node may.children may.is_parent may.inner_node
+  parent_not_key = inner_not_key parent may.stands.split may.stands.parent_node may.stands.children may.stands.is_parent may.stands.inner_node
 
   above_not_key : above ≢ key
   above_not_key = inner_not_key above linked.split linked.node linked.before linked.had linked.content
 
   other_not_key : other ≢ key
-  other_not_key e = (permuted_distinct may.children (key ∷ other ∷ []) (IsPermutation-sym (key ∷ other ∷ []) may.children may.two) (differ_told old may.split may.children nodes parent_content.2).distinct).0 (inl e)
+  other_not_key e = (permuted_distinct may.stands.children (key ∷ other ∷ []) (IsPermutation-sym (key ∷ other ∷ []) may.stands.children may.two) (differ_told old may.stands.split may.stands.children nodes parent_content.2).distinct).0 (inl e)
 
   -- Which of the keys this is. The nodes of all others stay.
   data Which (k : ℕ) : Type 0 where
@@ -166,10 +166,10 @@ module _ (old new : Tree Term) (key other : ℕ) (legal : IsLegal old) (may : Ma
   other_legal : IsLegalNode old other joins.other_node
   other_legal = legal.nodes other joins.other_node joins.was_below
 
-  other_above : other_legal.above ≡ (parent, may.parent_node) ∷ upper
-  other_above = one_path old joins.other_node.parent other_legal.above ((parent, may.parent_node) ∷ upper) other_legal.reached other_reached.2
+  other_above : other_legal.above ≡ (parent, may.stands.parent_node) ∷ upper
+  other_above = one_path old joins.other_node.parent other_legal.above ((parent, may.stands.parent_node) ∷ upper) other_legal.reached other_reached.2
 
-  other_binds : AreLegalBindings old ((parent, may.parent_node) ∷ upper) second
+  other_binds : AreLegalBindings old ((parent, may.stands.parent_node) ∷ upper) second
   other_binds = subst (λ a. AreLegalBindings old a second) other_above other_legal.binds
 
   abbrev rights : List ℕ
@@ -207,9 +207,9 @@ module _ (old new : Tree Term) (key other : ℕ) (legal : IsLegal old) (may : Ma
 
   upper_over : Lifted old new (Some above) upper
   upper_over = over_beside (Some above) upper upper_reached
-      (λ h. above_not_key (only_start old nodes above key may.node upper [] upper_reached may.is_leaf may.empty h))
-      (no_return old parent may.parent_node upper parent_reached)
-      (λ h. no_return old other joins.other_node ((parent, may.parent_node) ∷ upper) other_reached (inr h))
+      (λ h. above_not_key (only_start old nodes above key may.stands.node upper [] upper_reached may.stands.has may.empty h))
+      (no_return old parent may.stands.parent_node upper parent_reached)
+      (λ h. no_return old other joins.other_node ((parent, may.stands.parent_node) ∷ upper) other_reached (inr h))
 
   abbrev top : Path
   top = upper_over.path
@@ -217,7 +217,7 @@ module _ (old new : Tree Term) (key other : ℕ) (legal : IsLegal old) (may : Ma
   abbrev all : List ℕ
   all = (opened upper ++ right_indicators first) ++ right_indicators second
 
-  joined_lifts : Lifts old.next ((other, joins.other_node) ∷ (parent, may.parent_node) ∷ upper) ((other, joined_of) ∷ top)
+  joined_lifts : Lifts old.next ((other, joins.other_node) ∷ (parent, may.stands.parent_node) ∷ upper) ((other, joined_of) ∷ top)
   joined_lifts = record {
     term = ap (applied (composed first second)) upper_over.lifts.term ∙ sym (composed_applied first second (path_term upper) open_apart);
     opens = there;
@@ -247,13 +247,13 @@ module _ (old new : Tree Term) (key other : ℕ) (legal : IsLegal old) (may : Ma
   over_here : (from : Option ℕ) (step : ℕ × Node Term) (q : Path) → IsPath old from (step ∷ q) → step.0 ≡ other → Lifted old new from (step ∷ q)
   over_here from step q reached e =
       let from_other : from ≡ Some other = reached.0 ∙ ap Some e in
-      let same : (other, joins.other_node) ∷ (parent, may.parent_node) ∷ upper ≡ step ∷ q = one_path old (Some other) ((other, joins.other_node) ∷ (parent, may.parent_node) ∷ upper) (step ∷ q) other_reached (subst (λ k. IsPath old k (step ∷ q)) from_other reached) in
-      let it : Lifted old new (Some other) ((other, joins.other_node) ∷ (parent, may.parent_node) ∷ upper) = record { path = (other, joined_of) ∷ top; reached = joined_reached; lifts = joined_lifts } in
+      let same : (other, joins.other_node) ∷ (parent, may.stands.parent_node) ∷ upper ≡ step ∷ q = one_path old (Some other) ((other, joins.other_node) ∷ (parent, may.stands.parent_node) ∷ upper) (step ∷ q) other_reached (subst (λ k. IsPath old k (step ∷ q)) from_other reached) in
+      let it : Lifted old new (Some other) ((other, joins.other_node) ∷ (parent, may.stands.parent_node) ∷ upper) = record { path = (other, joined_of) ∷ top; reached = joined_reached; lifts = joined_lifts } in
       subst (λ k. Lifted old new k (step ∷ q)) (sym from_other) (subst (Lifted old new (Some other)) same it)
 
   -- only the leaf and the other child stand below the parent
   below_parent : (k : ℕ) → IsChild old parent k → (k ≡ key) ⊎ (k ≡ other)
-  below_parent k c = elim (permuted_among may.children (key ∷ other ∷ []) k (IsPermutation-sym (key ∷ other ∷ []) may.children may.two) ((parent_content.1 k).1 c)) as (λ _. (k ≡ key) ⊎ (k ≡ other)) [
+  below_parent k c = elim (permuted_among may.stands.children (key ∷ other ∷ []) k (IsPermutation-sym (key ∷ other ∷ []) may.stands.children may.two) ((parent_content.1 k).1 c)) as (λ _. (k ≡ key) ⊎ (k ≡ other)) [
     | inl e ↦ inl (sym e)
     | inr b ↦ elim b as (λ _. (k ≡ key) ⊎ (k ≡ other)) [ inl e ↦ inr (sym e) | inr h ↦ absurd h ]
   ]
@@ -267,7 +267,7 @@ module _ (old new : Tree Term) (key other : ℕ) (legal : IsLegal old) (may : Ma
         | inl e ↦ over_here from step q reached e.1
         | inr e ↦ lifted_step old new nodes from step q reached (in_place step.0 not_key not_parent e.1)
             (over step.1.parent q reached.2
-            (λ f. childless old nodes key step.0 may.node [] may.is_leaf may.empty (step.1, reached.1, f))
+            (λ f. childless old nodes key step.0 may.stands.node [] may.stands.has may.empty (step.1, reached.1, f))
             (λ f. elim (below_parent step.0 (step.1, reached.1, f)) as (λ _. ⊥) [ inl g ↦ not_key g | inr g ↦ e.1 g ]))
       ]
 
@@ -288,11 +288,11 @@ module _ (old new : Tree Term) (key other : ℕ) (legal : IsLegal old) (may : Ma
   keeps k a b = keeps_children old new k (λ child. by child (which child)) where
     by : (child : ℕ) → Which child → StaysInPlace old new child ⊎ ((IsChild old k child → ⊥) × (IsChild new k child → ⊥))
     by child (is_key e) = inr (
-      (λ h. a (same_Some k parent (sym (parent_told old k child key may.node may.is_leaf e h) ∙ may.below))),
+      (λ h. a (same_Some k parent (sym (parent_told old k child key may.stands.node may.stands.has e h) ∙ may.stands.below))),
       gone_child k child key joins.gone e,
     )
     by child (is_parent e) = inr (
-      (λ h. b (same_Some k above (sym (parent_told old k child parent may.parent_node may.is_parent e h) ∙ below_above))),
+      (λ h. b (same_Some k above (sym (parent_told old k child parent may.stands.parent_node may.stands.is_parent e h) ∙ below_above))),
       gone_child k child parent parent_gone e,
     )
     by child (is_joined e) = inr (
@@ -312,7 +312,7 @@ module _ (old new : Tree Term) (key other : ℕ) (legal : IsLegal old) (may : Ma
   -- the node's parent is none of the two that go
   parent_stays : (k : ℕ) (n : Node Term) → HasNode old k n → k ≢ key → k ≢ other → (n.parent ≡ Some key → ⊥) × (n.parent ≡ Some parent → ⊥)
   parent_stays k n has a c = (
-    (λ e. childless old nodes key k may.node [] may.is_leaf may.empty (n, has, e)),
+    (λ e. childless old nodes key k may.stands.node [] may.stands.has may.empty (n, has, e)),
     (λ e. elim (below_parent k (n, has, e)) as (λ _. ⊥) [ inl f ↦ a f | inr f ↦ c f ]),
   )
 
@@ -338,7 +338,7 @@ module _ (old new : Tree Term) (key other : ℕ) (legal : IsLegal old) (may : Ma
   besides_open : (n : ℕ) → IsAmong (left_sides besides) n → IsAmong (indicators (path_term upper)) n × (IsAmong (left_sides first) n → ⊥)
   besides_open n a =
       let left = unused_left (right_indicators first) second n a in
-      elim (open_from first (path_term upper) n parent_legal.binds.distinct (all_at (IsOpenBelow ((parent, may.parent_node) ∷ upper)) (left_sides second) n other_binds.lefts left.0)) as (λ _. IsAmong (indicators (path_term upper)) n × (IsAmong (left_sides first) n → ⊥)) [
+      elim (open_from first (path_term upper) n parent_legal.binds.distinct (all_at (IsOpenBelow ((parent, may.stands.parent_node) ∷ upper)) (left_sides second) n other_binds.lefts left.0)) as (λ _. IsAmong (indicators (path_term upper)) n × (IsAmong (left_sides first) n → ⊥)) [
         | inl h ↦ h
         | inr h ↦ absurd (left.1 h)
       ]
@@ -395,7 +395,7 @@ module _ (old new : Tree Term) (key other : ℕ) (legal : IsLegal old) (may : Ma
     };
     opens = joined_lifts.once other_opens;
     content =
-        kept_content old new other ((other, joins.other_node) ∷ (parent, may.parent_node) ∷ upper) ((other, joined_of) ∷ top) joins.other_node.content nodes joins.root joined_lifts.term
+        kept_content old new other ((other, joins.other_node) ∷ (parent, may.stands.parent_node) ∷ upper) ((other, joined_of) ∷ top) joins.other_node.content nodes joins.root joined_lifts.term
         (keeps other other_not_parent (λ e. above_not_other (sym e)))
         (subst (λ a. IsLegalContent old other ((other, joins.other_node) ∷ a) joins.other_node.content) other_above other_legal.content);
   } where
@@ -413,13 +413,13 @@ module _ (old new : Tree Term) (key other : ℕ) (legal : IsLegal old) (may : Ma
   above_differ = differ_told old linked.split linked.before nodes above_content.2
 
   parent_among : IsAmong linked.before parent
-  parent_among = (above_content.1 parent).1 (may.parent_node, may.is_parent, below_above)
+  parent_among = (above_content.1 parent).1 (may.stands.parent_node, may.stands.is_parent, below_above)
 
   -- what the parent bound the split to
   split_right : (a : Term) × IsAmong first (linked.split, a)
   split_right =
       let b = above_differ.each parent parent_among in
-      (b.0, subst (λ n. IsAmong n.bindings (linked.split, b.0)) (one_node old parent b.1.0 may.parent_node b.1.1 may.is_parent) b.1.2)
+      (b.0, subst (λ n. IsAmong n.bindings (linked.split, b.0)) (one_node old parent b.1.0 may.stands.parent_node b.1.1 may.stands.is_parent) b.1.2)
 
   split_joined : IsAmong (composed first second) (linked.split, applied second split_right.0)
   split_joined = among_front (carried first second) besides (linked.split, applied second split_right.0) (carried_among first second linked.split split_right.0 split_right.1)
@@ -435,7 +435,7 @@ module _ (old new : Tree Term) (key other : ℕ) (legal : IsLegal old) (may : Ma
   beside : (child : ℕ) → IsChild old above child → child ≢ parent → StaysInPlace old new child
   beside child c differs = in_place child not_key differs not_other where
     not_key : child ≢ key
-    not_key e = above_not_parent (same_Some above parent (sym (parent_told old above child key may.node may.is_leaf e c) ∙ may.below))
+    not_key e = above_not_parent (same_Some above parent (sym (parent_told old above child key may.stands.node may.stands.has e c) ∙ may.stands.below))
 
     not_other : child ≢ other
     not_other e = above_not_parent (same_Some above parent (sym (parent_told old above child other joins.other_node joins.was_below e c) ∙ other_below))
@@ -461,7 +461,7 @@ module _ (old new : Tree Term) (key other : ℕ) (legal : IsLegal old) (may : Ma
         let differs : child ≢ parent = λ e. was.1 (inl (sym e)) in
         let place = beside child was.0 differs in
         head_apart t split_right.0 u (split_head t b)
-        (above_differ.apart parent child split_right.0 u parent_among ((above_content.1 child).1 was.0) (λ e. differs (sym e)) (may.parent_node, may.is_parent, split_right.1) (binding_over new old child linked.split u (sym place) c))
+        (above_differ.apart parent child split_right.0 u parent_among ((above_content.1 child).1 was.0) (λ e. differs (sym e)) (may.stands.parent_node, may.stands.is_parent, split_right.1) (binding_over new old child linked.split u (sym place) c))
 
   new_above_legal : IsLegalNode new above above_of
   new_above_legal =
@@ -476,8 +476,8 @@ module _ (old new : Tree Term) (key other : ℕ) (legal : IsLegal old) (may : Ma
   root_legal : (r : Node Term) × HasNode new new.root r × IsRoot r
   root_legal = root_over old new above (parent ∷ []) (other ∷ []) legal linked joins.root (λ differs. by differs (which old.root)) where
     by : old.root ≢ above → Which old.root → slice_index_or new.nodes old.root None ≡ slice_index_or old.nodes old.root None
-    by differs (is_key e) = absurd (root_no_child old legal key parent may.node may.is_leaf may.below e)
-    by differs (is_parent e) = absurd (root_no_child old legal parent above may.parent_node may.is_parent below_above e)
+    by differs (is_key e) = absurd (root_no_child old legal key parent may.stands.node may.stands.has may.stands.below e)
+    by differs (is_parent e) = absurd (root_no_child old legal parent above may.stands.parent_node may.stands.is_parent below_above e)
     by differs (is_joined e) = absurd (root_no_child old legal other parent joins.other_node joins.was_below other_below e)
     by differs (is_above e) = absurd (differs e)
     by differs (is_rest same x y z) = same
@@ -496,13 +496,13 @@ module _ (old new : Tree Term) (key other : ℕ) (legal : IsLegal old) (may : Ma
     by : Which k → LeafStays old new k
     by (is_key e) = absurd (differs e)
     by (is_parent e) = subst (LeafStays old new) (sym e)
-        (no_leaf_stays old new parent (λ t ps. no_leaf_here old parent may.parent_node may.split may.children t ps may.is_parent may.inner_node) (λ t ps. no_leaf_vacant new parent t ps parent_gone))
+        (no_leaf_stays old new parent (λ t ps. no_leaf_here old parent may.stands.parent_node may.stands.split may.stands.children t ps may.stands.is_parent may.stands.inner_node) (λ t ps. no_leaf_vacant new parent t ps parent_gone))
     by (is_joined e) = subst (LeafStays old new) (sym e)
-        (leaf_stays old new other joins.other_node joined_of ((other, joins.other_node) ∷ (parent, may.parent_node) ∷ upper) ((other, joined_of) ∷ top) joins.was_below has_joined other_reached joined_reached refl joined_lifts.term)
+        (leaf_stays old new other joins.other_node joined_of ((other, joins.other_node) ∷ (parent, may.stands.parent_node) ∷ upper) ((other, joined_of) ∷ top) joins.was_below has_joined other_reached joined_reached refl joined_lifts.term)
     by (is_above e) = subst (LeafStays old new) (sym e) (no_leaf_linked old new above (parent ∷ []) (other ∷ []) linked)
     by (is_rest same x y z) = leaf_stays_lifted old new nodes k same (λ q reached. over (Some k) q reached (λ e. differs (same_Some k key e)) (λ e. x (same_Some k parent e)))
 
   -- A leaf without a posting goes, and its parent is joined with the other child: the tree stays
   -- legal, and all that is stored stays, each posting in its leaf.
   pub joins_nodes : IsLegal new × StaysStored old new × KeepsLeaves old new
-  joins_nodes = loses_leaf old new key may.node legal new_nodes leaves may.is_leaf may.empty joins.gone joins.next joins.vars
+  joins_nodes = loses_leaf old new key may.stands.node legal new_nodes leaves may.stands.has may.empty joins.gone joins.next joins.vars

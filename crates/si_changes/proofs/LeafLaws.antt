@@ -172,13 +172,13 @@ module _ (old new : Tree Term) (key : ℕ) (legal : IsLegal old) (may : MayDropL
     next = drops.next;
     apart = λ e. leaf_apart drops.parent drops.linked.node drops.linked.split drops.linked.before drops.linked.had drops.linked.content e;
     no_root = λ e. leaf_apart old.root legal.root.0 0 legal.root.2.splits.0 legal.root.1 legal.root.2.splits.1 e;
-    childless = λ child c. childless old (legal_nodes old legal) key child may.node [] may.is_leaf may.empty c;
+    childless = λ child c. childless old (legal_nodes old legal) key child may.stands.node [] may.stands.has may.empty c;
     was_below = λ k c. same_Some k drops.parent (sym c.2 ∙ ap (λ n. n.parent) (one_node old key c.0 drops.node c.1 drops.had) ∙ drops.below);
     is_below = λ k c. absurd (vacant_apart new key key c.0 drops.gone c.1 refl);
   } where
     leaf_apart : (k : ℕ) (node : Node Term) (split : ℕ) (children : List ℕ) → HasNode old k node → node.content ≡ inner split children → k ≡ key → ⊥
     leaf_apart k node split children has is e =
-        inner_no_leaf split children [] (sym is ∙ ap (λ n. n.content) (one_node old key node may.node (subst (λ j. HasNode old j node) e has) may.is_leaf) ∙ may.empty)
+        inner_no_leaf split children [] (sym is ∙ ap (λ n. n.content) (one_node old key node may.stands.node (subst (λ j. HasNode old j node) e has) may.stands.has) ∙ may.empty)
 
   drop_stays : (child : ℕ) → child ≢ key → StaysInPlace old new child
   drop_stays child other = stays old new key drops.parent (key ∷ []) [] legal drop_linked child other
@@ -197,14 +197,14 @@ module _ (old new : Tree Term) (key : ℕ) (legal : IsLegal old) (may : MayDropL
     differ = λ stay are h. h;
   }
 
-  same_parent : may.parent ≡ drops.parent
-  same_parent = same_Some may.parent drops.parent (sym may.below ∙ ap (λ n. n.parent) (one_node old key may.node drops.node may.is_leaf drops.had) ∙ drops.below)
+  same_parent : may.stands.parent ≡ drops.parent
+  same_parent = same_Some may.stands.parent drops.parent (sym may.stands.below ∙ ap (λ n. n.parent) (one_node old key may.stands.node drops.node may.stands.has drops.had) ∙ drops.below)
 
-  same_children : may.children ≡ drops.linked.before
+  same_children : may.stands.children ≡ drops.linked.before
   same_children =
-      let there : HasNode old drops.parent may.parent_node = subst (λ k. HasNode old k may.parent_node) same_parent may.is_parent in
-      (same_inner may.split drops.linked.split may.children drops.linked.before
-      (sym may.inner_node ∙ ap (λ n. n.content) (one_node old drops.parent may.parent_node drops.linked.node there drops.linked.had) ∙ drops.linked.content)).1
+      let there : HasNode old drops.parent may.stands.parent_node = subst (λ k. HasNode old k may.stands.parent_node) same_parent may.stands.is_parent in
+      (same_inner may.stands.split drops.linked.split may.stands.children drops.linked.before
+      (sym may.stands.inner_node ∙ ap (λ n. n.content) (one_node old drops.parent may.stands.parent_node drops.linked.node there drops.linked.had) ∙ drops.linked.content)).1
 
   drop_enough : HasEnoughChildren new drops.parent drops.linked.after
   drop_enough no_root =
@@ -231,4 +231,4 @@ module _ (old new : Tree Term) (key : ℕ) (legal : IsLegal old) (may : MayDropL
 
 pub drops_leaf : (old new : Tree Term) (key : ℕ) → IsLegal old → MayDropLeaf old key → DropsLeaf old new key → IsLegal new × StaysStored old new × KeepsLeaves old new
 drops_leaf old new key legal may drops =
-    loses_leaf old new key may.node legal (drop_nodes old new key legal may drops) (drop_leaves old new key legal may drops) may.is_leaf may.empty drops.gone drops.next drops.vars
+    loses_leaf old new key may.stands.node legal (drop_nodes old new key legal may drops) (drop_leaves old new key legal may drops) may.stands.has may.empty drops.gone drops.next drops.vars

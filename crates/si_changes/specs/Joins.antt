@@ -1,25 +1,17 @@
 -- A leaf goes, and its parent is joined with the one child that is left (this project's profile).
-use Rattle.std.specs.Prelude.{◌≡◌, ◌≢◌, ℕ, List, [], ◌∷◌, Some, IsPermutation}
+use Rattle.std.specs.Prelude.{◌≡◌, ◌≢◌, ℕ, [], ◌∷◌, Some, IsPermutation}
 use Rattle.si_flat.specs.Cells.{Term}
 use Rattle.si_legal.specs.Bindings.{composed}
-use Rattle.si_legal.specs.Trees.{inner, leaf, Node, Tree, HasNode}
-use Rattle.si_changes.specs.Nodes.{IsVacant, OtherNodesStay, ChangesChildren}
+use Rattle.si_legal.specs.Trees.{leaf, Node, Tree, HasNode}
+use Rattle.si_changes.specs.Nodes.{IsVacant, OtherNodesStay, ChangesChildren, IsBelowInner}
 
 -- The leaf with this key has no posting, and this is the one other child of its parent, which isn't
 -- the root.
 pub record MayJoin (tree : Tree Term) (key other : ℕ) : Type 0 where
-  pub node : Node Term
-  pub parent : ℕ
-  pub parent_node : Node Term
-  pub split : ℕ
-  pub children : List ℕ
-  pub is_leaf : HasNode tree key node
-  pub empty : node.content ≡ leaf []
-  pub below : node.parent ≡ Some parent
-  pub no_root : parent ≢ tree.root
-  pub is_parent : HasNode tree parent parent_node
-  pub inner_node : parent_node.content ≡ inner split children
-  pub two : IsPermutation (key ∷ other ∷ []) children
+  pub stands : IsBelowInner tree key
+  pub empty : stands.node.content ≡ leaf []
+  pub no_root : stands.parent ≢ tree.root
+  pub two : IsPermutation (key ∷ other ∷ []) stands.children
 
 pub record Joins (old new : Tree Term) (key other : ℕ) : Type 0 where
   pub parent : ℕ

@@ -7,7 +7,7 @@ use Rattle.si_legal.specs.Bindings.{Binding, OpensNone, BindsExactly, applied}
 use Rattle.si_legal.specs.Generalizations.{same_head}
 use Rattle.si_legal.specs.Trees.{inner, leaf, Node, Tree, HasNode, Path, IsPath, path_term}
 use Rattle.si_legal.specs.Legal.{IsOpenBelow, ChildBinds}
-use Rattle.si_changes.specs.Nodes.{IsVacant, OtherNodesStay, leaf_below, ChangesChildren, MayComeIn, RoomFor}
+use Rattle.si_changes.specs.Nodes.{IsVacant, OtherNodesStay, leaf_below, ChangesChildren, IsBelowInner, MayComeIn, RoomFor}
 
 -- the path that leads to this key has this term
 abbrev pub IsTermAt : Tree Term → ℕ → Term → Type 0
@@ -43,17 +43,9 @@ pub record AddsLeaf (old new : Tree Term) (parent : ℕ) (bindings : List Bindin
 -- ---- a leaf goes
 -- it has no posting, and its parent is the root or keeps two children
 pub record MayDropLeaf (tree : Tree Term) (key : ℕ) : Type 0 where
-  pub node : Node Term
-  pub parent : ℕ
-  pub parent_node : Node Term
-  pub split : ℕ
-  pub children : List ℕ
-  pub is_leaf : HasNode tree key node
-  pub empty : node.content ≡ leaf []
-  pub below : node.parent ≡ Some parent
-  pub is_parent : HasNode tree parent parent_node
-  pub inner_node : parent_node.content ≡ inner split children
-  pub enough : (parent ≡ tree.root) ⊎ (3 ≤ length children)
+  pub stands : IsBelowInner tree key
+  pub empty : stands.node.content ≡ leaf []
+  pub enough : (stands.parent ≡ tree.root) ⊎ (3 ≤ length stands.children)
 
 pub record DropsLeaf (old new : Tree Term) (key : ℕ) : Type 0 where
   pub node : Node Term

@@ -46,6 +46,18 @@ pub record ChangesChildren (old new : Tree Term) (key : ℕ) (gone come : List �
   pub has : HasNode new key (with_content node (inner split after))
   pub after_are : IsPermutation (come ++ stay) after
 
+-- the node with this key is below an inner one
+pub record IsBelowInner (tree : Tree Term) (key : ℕ) : Type 0 where
+  pub node : Node Term
+  pub parent : ℕ
+  pub parent_node : Node Term
+  pub split : ℕ
+  pub children : List ℕ
+  pub has : HasNode tree key node
+  pub below : node.parent ≡ Some parent
+  pub is_parent : HasNode tree parent parent_node
+  pub inner_node : parent_node.content ≡ inner split children
+
 -- the leaf with this key gets other postings, and nothing else changes
 pub record ChangesPostings (old new : Tree Term) (key : ℕ) (before after : List Posting)
     : Type 0 where

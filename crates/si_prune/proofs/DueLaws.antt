@@ -11,6 +11,7 @@ use Rattle.si_legal.specs.Bindings.{Binding, right_indicators, StandForBindings}
 use Rattle.si_legal.specs.Trees.{Content, inner, leaf, Node, Tree, HasNode, Path, IsPath, path_term, opened}
 use Rattle.si_legal.specs.Legal.{IsOpenBelow, IsLegalContent, IsLegalNode, IsLegal}
 use Rattle.si_legal.proofs.PathLaws.{one_node, one_path}
+use Rattle.si_changes.specs.Nodes.{IsBelowInner}
 use Rattle.si_changes.specs.Joins.{MayJoin}
 use Rattle.si_changes.specs.Leaves.{MayDropLeaf}
 use Rattle.si_changes.proofs.FewOpened.{small_term}
@@ -27,29 +28,29 @@ use Rattle.si_prune.proofs.SizeLaws.{rights_small}
 -- ---- bindings that may be composed
 module _ (tree : Tree Term) (key other : ℕ) (other_node : Node Term) (legal : IsLegal tree) (may : MayJoin tree key other) (has_other : HasNode tree other other_node) where
   abbrev parent : ℕ
-  parent = may.parent
+  parent = may.stands.parent
 
   abbrev first : List Binding
-  first = may.parent_node.bindings
+  first = may.stands.parent_node.bindings
 
   abbrev second : List Binding
   second = other_node.bindings
 
-  h : IsLegalNode tree parent may.parent_node
-  h = legal.nodes parent may.parent_node may.is_parent
+  h : IsLegalNode tree parent may.stands.parent_node
+  h = legal.nodes parent may.stands.parent_node may.stands.is_parent
 
   k : IsLegalNode tree other other_node
   k = legal.nodes other other_node has_other
 
   abbrev upper : Path
-  upper = (parent, may.parent_node) ∷ h.above
+  upper = (parent, may.stands.parent_node) ∷ h.above
 
   upper_reached : IsPath tree (Some parent) upper
-  upper_reached = (refl, may.is_parent, h.reached)
+  upper_reached = (refl, may.stands.is_parent, h.reached)
 
   below : other_node.parent ≡ Some parent
   below =
-      let found = ((subst (IsLegalContent tree parent upper) may.inner_node h.content).1 other).0 (permuted_among (key ∷ other ∷ []) may.children other may.two (inr (inl refl))) in
+      let found = ((subst (IsLegalContent tree parent upper) may.stands.inner_node h.content).1 other).0 (permuted_among (key ∷ other ∷ []) may.stands.children other may.two (inr (inl refl))) in
       ap (λ n. n.parent) (sym (one_node tree other found.0 other_node found.1 has_other)) ∙ found.2
 
   above_is : k.above ≡ upper
@@ -107,20 +108,21 @@ module _ (tree : Tree Term) (key parent : ℕ) (legal : IsLegal tree) (empty : I
   up : HasParent tree key parent
   up = has_parent tree key parent empty.0 legal empty.1 below
 
-  dropped : (parent ≡ tree.root) ⊎ (3 ≤ length up.children) → MayDropLeaf tree key
-  dropped enough = record {
+  abbrev stands : IsBelowInner tree key
+  stands = record {
     node = empty.0;
     parent = parent;
     parent_node = up.node;
     split = up.split;
     children = up.children;
-    is_leaf = empty.1;
-    empty = empty.2;
+    has = empty.1;
     below = below;
     is_parent = up.has;
     inner_node = up.content;
-    enough = enough;
   }
+
+  dropped : (parent ≡ tree.root) ⊎ (3 ≤ length up.children) → MayDropLeaf tree key
+  dropped enough = record { stands = stands; empty = empty.2; enough = enough }
 
   pub parent_there : IsNode tree parent
   parent_there = (up.node, up.has)
@@ -145,17 +147,9 @@ module _ (tree : Tree Term) (key parent : ℕ) (legal : IsLegal tree) (empty : I
 
     abbrev two_joined : (other : ℕ) → parent ≢ tree.root → IsPermutation (key ∷ other ∷ []) children → MayJoin tree key other
     two_joined other no_root two = record {
-      node = empty.0;
-      parent = parent;
-      parent_node = up.node;
-      split = up.split;
-      children = up.children;
-      is_leaf = empty.1;
+      stands = stands;
       empty = empty.2;
-      below = below;
       no_root = no_root;
-      is_parent = up.has;
-      inner_node = up.content;
       two = subst (IsPermutation (key ∷ other ∷ [])) children_are two;
     }
 
@@ -173,17 +167,17 @@ module _ (tree : Tree Term) (key parent : ℕ) (legal : IsLegal tree) (empty : I
 
 -- ---- a join
 module _ (tree : Tree Term) (key parent other : ℕ) (j : AreToJoin tree key parent other) where
-  has_upper : HasNode tree parent j.may.parent_node
-  has_upper = subst (λ k. HasNode tree k j.may.parent_node) j.parent_is j.may.is_parent
+  has_upper : HasNode tree parent j.may.stands.parent_node
+  has_upper = subst (λ k. HasNode tree k j.may.stands.parent_node) j.parent_is j.may.stands.is_parent
 
   pub upper_there : IsNode tree parent
-  upper_there = (j.may.parent_node, has_upper)
+  upper_there = (j.may.stands.parent_node, has_upper)
 
   pub other_there : IsNode tree other
   other_there = (j.other_node, j.has_other)
 
   pub may_compose : (node child : List CellPair) → AtNode tree parent (λ n. StandForBindings node n.bindings) → AtNode tree other (λ n. StandForBindings child n.bindings) → MayCompose node child
-  may_compose node child stand stand' = (j.may.parent_node.bindings, j.other_node.bindings, stand j.may.parent_node has_upper, stand' j.other_node j.has_other, j.composable)
+  may_compose node child stand stand' = (j.may.stands.parent_node.bindings, j.other_node.bindings, stand j.may.stands.parent_node has_upper, stand' j.other_node j.has_other, j.composable)
 
   pub may_join : (node child both : List CellPair) → AtNode tree parent (λ n. StandForBindings node n.bindings) → AtNode tree other (λ n. StandForBindings child n.bindings) → Composes node child both → MayJoinBy tree key both
   may_join node child both stand stand' composes = record {
@@ -191,22 +185,14 @@ module _ (tree : Tree Term) (key parent other : ℕ) (j : AreToJoin tree key par
     other_node = j.other_node;
     may = j.may;
     has_other = j.has_other;
-    composes = composes j.may.parent_node.bindings j.other_node.bindings (stand j.may.parent_node has_upper) (stand' j.other_node j.has_other);
+    composes = composes j.may.stands.parent_node.bindings j.other_node.bindings (stand j.may.stands.parent_node has_upper) (stand' j.other_node j.has_other);
   }
 
   pub is_due : IsJoinDue tree key
   is_due = record {
-    node = j.may.node;
-    parent = j.may.parent;
-    parent_node = j.may.parent_node;
-    split = j.may.split;
-    children = j.may.children;
-    has = j.may.is_leaf;
-    below = j.may.below;
+    stands = j.may.stands;
     no_root = j.may.no_root;
-    is_parent = j.may.is_parent;
-    inner_node = j.may.inner_node;
-    two = length_permutation (key ∷ other ∷ []) j.may.children j.may.two;
+    two = length_permutation (key ∷ other ∷ []) j.may.stands.children j.may.two;
   }
 
 -- ---- two children

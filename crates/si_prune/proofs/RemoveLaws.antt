@@ -64,22 +64,24 @@ module _ (old middle : Tree Term) (key : ℕ) (p : Posting) (drops : DropsPostin
   -- a join that is due then was due before
   was_due : IsJoinDue middle key → IsJoinDue old key
   was_due due = record {
-    node = drops.changes.node;
-    parent = due.parent;
-    parent_node = due.parent_node;
-    split = due.split;
-    children = due.children;
-    has = drops.changes.had;
-    below = ap (λ n. n.parent) (one_node middle key (with_content drops.changes.node (leaf left)) due.node drops.changes.has due.has) ∙ due.below;
+    stands = record {
+      node = drops.changes.node;
+      parent = due.stands.parent;
+      parent_node = due.stands.parent_node;
+      split = due.stands.split;
+      children = due.stands.children;
+      has = drops.changes.had;
+      below = ap (λ n. n.parent) (one_node middle key (with_content drops.changes.node (leaf left)) due.stands.node drops.changes.has due.stands.has) ∙ due.stands.below;
+      is_parent = sym (drops.changes.others due.stands.parent (λ a. elim a as (λ _. ⊥) [ inl e ↦ apart (sym e) | inr n ↦ n ])) ∙ due.stands.is_parent;
+      inner_node = due.stands.inner_node;
+    };
     no_root = λ e. due.no_root (e ∙ sym drops.changes.root);
-    is_parent = sym (drops.changes.others due.parent (λ a. elim a as (λ _. ⊥) [ inl e ↦ apart (sym e) | inr n ↦ n ])) ∙ due.is_parent;
-    inner_node = due.inner_node;
     two = due.two;
   } where
-    apart : due.parent ≢ key
+    apart : due.stands.parent ≢ key
     apart e =
-        inner_no_leaf due.split due.children left
-        (sym due.inner_node ∙ ap (λ n. n.content) (one_node middle key due.parent_node (with_content drops.changes.node (leaf left)) (subst (λ k. HasNode middle k due.parent_node) e due.is_parent) drops.changes.has))
+        inner_no_leaf due.stands.split due.stands.children left
+        (sym due.stands.inner_node ∙ ap (λ n. n.content) (one_node middle key due.stands.parent_node (with_content drops.changes.node (leaf left)) (subst (λ k. HasNode middle k due.stands.parent_node) e due.stands.is_parent) drops.changes.has))
 
   pub leaf_there : IsNode middle key
   leaf_there = (with_content drops.changes.node (leaf left), drops.changes.has)

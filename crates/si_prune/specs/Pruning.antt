@@ -1,5 +1,5 @@
 -- Bindings composed in cells, and what the removal of a posting does (this project's profile).
-use Rattle.std.specs.Prelude.{◌≡◌, ◌≢◌, ℕ, ◌+◌, ◌^◌, ◌≤◌, cond, not, ◌==◌, List, [], ◌∷◌, ◌++◌, Some, map, filter, length}
+use Rattle.std.specs.Prelude.{◌≡◌, ◌≢◌, ℕ, ◌+◌, ◌^◌, ◌≤◌, cond, not, ◌==◌, List, [], ◌∷◌, ◌++◌, map, filter, length}
 use Rattle.std.specs.List.{list_any}
 use Rattle.std.specs.List.Sorted.{IsNonDecreasingBy, IsPermutation}
 use Rattle.si_defs.specs.Substitutions.{AreDistinct}
@@ -11,8 +11,9 @@ use Rattle.si_legal.specs.declared.Posting.{Posting}
 use Rattle.si_legal.specs.Bindings.{Binding, right_indicators, right_sizes, composed, StandForBindings}
 use Rattle.si_legal.specs.Counts.{unmerged_count}
 use Rattle.si_legal.specs.StoredSets.{Loses, KeepsLeaves}
-use Rattle.si_legal.specs.Trees.{inner, leaf, Node, Tree, HasNode, IsLeaf}
+use Rattle.si_legal.specs.Trees.{leaf, Node, Tree, HasNode, IsLeaf}
 use Rattle.si_mscg.specs.Generalising.{spanless, respanned}
+use Rattle.si_changes.specs.Nodes.{IsBelowInner}
 use Rattle.si_changes.specs.Joins.{MayJoin}
 
 -- ---- bindings composed
@@ -75,25 +76,17 @@ IsEmptyLeaf tree key = (node : Node Term) × HasNode tree key node × (node.cont
 
 -- a join of the leaf's parent is due: it isn't the root, and has exactly two children
 pub record IsJoinDue (tree : Tree Term) (key : ℕ) : Type 0 where
-  pub node : Node Term
-  pub parent : ℕ
-  pub parent_node : Node Term
-  pub split : ℕ
-  pub children : List ℕ
-  pub has : HasNode tree key node
-  pub below : node.parent ≡ Some parent
-  pub no_root : parent ≢ tree.root
-  pub is_parent : HasNode tree parent parent_node
-  pub inner_node : parent_node.content ≡ inner split children
-  pub two : length children ≡ 2
+  pub stands : IsBelowInner tree key
+  pub no_root : stands.parent ≢ tree.root
+  pub two : length stands.children ≡ 2
 
 -- the leaf goes by a join of this parent with this other child
 pub record AreToJoin (tree : Tree Term) (key parent other : ℕ) : Type 0 where
   pub may : MayJoin tree key other
-  pub parent_is : may.parent ≡ parent
+  pub parent_is : may.stands.parent ≡ parent
   pub other_node : Node Term
   pub has_other : HasNode tree other other_node
-  pub composable : AreComposable may.parent_node.bindings other_node.bindings
+  pub composable : AreComposable may.stands.parent_node.bindings other_node.bindings
 
 -- ---- a posting removed
 -- The leaf's term loses the posting, and other terms keep theirs. No leaf stays for it without a

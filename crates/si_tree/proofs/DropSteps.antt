@@ -110,16 +110,16 @@ apart_from_leaf tree k key n node split children there content has is e =
 -- ---- what the code asks for
 pub may_take_out : (old : Inside) (key : ℕ) → IsKept old → MayDropLeaf (tree_of old) key → MayTakeOut old.nodes key
 may_take_out old key kept may =
-    let here = stood old.nodes.slots key may.node may.is_leaf in
-    let above = stood old.nodes.slots may.parent may.parent_node may.is_parent in
-    let content : content_of above.kept.content ≡ inner may.split may.children = ap (λ n. n.content) above.read ∙ may.inner_node in
+    let here = stood old.nodes.slots key may.stands.node may.stands.has in
+    let above = stood old.nodes.slots may.stands.parent may.stands.parent_node may.stands.is_parent in
+    let content : content_of above.kept.content ≡ inner may.stands.split may.stands.children = ap (λ n. n.content) above.read ∙ may.stands.inner_node in
     record {
       node = here.kept;
-      parent = may.parent;
+      parent = may.stands.parent;
       has = here.got;
-      below = ap (λ n. n.parent) here.read ∙ may.below;
-      child = is_below old kept may.parent above.kept may.split may.children above.got content key here.kept here.got (parent_content (tree_of old) key may.parent may.node may.parent_node may.split may.children kept.legal may.is_leaf may.below may.is_parent may.inner_node);
-      apart = apart_from_leaf (tree_of old) may.parent key may.parent_node may.node may.split may.children may.is_parent may.inner_node may.is_leaf may.empty;
+      below = ap (λ n. n.parent) here.read ∙ may.stands.below;
+      child = is_below old kept may.stands.parent above.kept may.stands.split may.stands.children above.got content key here.kept here.got (parent_content (tree_of old) key may.stands.parent may.stands.node may.stands.parent_node may.stands.split may.stands.children kept.legal may.stands.has may.stands.below may.stands.is_parent may.stands.inner_node);
+      apart = apart_from_leaf (tree_of old) may.stands.parent key may.stands.parent_node may.stands.node may.stands.split may.stands.children may.stands.is_parent may.stands.inner_node may.stands.has may.empty;
     }
 
 -- ---- the step
@@ -130,8 +130,8 @@ module _ (old : Inside) (nodes : Slab TreeNode) (key : ℕ) (kept : IsKept old) 
   had : HasNode (tree_of old) key (node_of taken.node)
   had = node_read old.nodes.slots key taken.node taken.had
 
-  node_is : node_of taken.node ≡ may.node
-  node_is = one_node (tree_of old) key (node_of taken.node) may.node had may.is_leaf
+  node_is : node_of taken.node ≡ may.stands.node
+  node_is = one_node (tree_of old) key (node_of taken.node) may.stands.node had may.stands.has
 
   was_leaf : content_of taken.node.content ≡ leaf []
   was_leaf = ap (λ n. n.content) node_is ∙ may.empty

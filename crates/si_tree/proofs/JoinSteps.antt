@@ -104,58 +104,58 @@ module _ (old : Inside) (key : ℕ) (cells : List CellPair) (kept : IsKept old) 
   tree = tree_of old
 
   abbrev parent : ℕ
-  parent = may.may.parent
+  parent = may.may.stands.parent
 
-  pub here : Stood old.nodes.slots key may.may.node
-  here = stood old.nodes.slots key may.may.node may.may.is_leaf
+  pub here : Stood old.nodes.slots key may.may.stands.node
+  here = stood old.nodes.slots key may.may.stands.node may.may.stands.has
 
-  pub parent_stood : Stood old.nodes.slots parent may.may.parent_node
-  parent_stood = stood old.nodes.slots parent may.may.parent_node may.may.is_parent
+  pub parent_stood : Stood old.nodes.slots parent may.may.stands.parent_node
+  parent_stood = stood old.nodes.slots parent may.may.stands.parent_node may.may.stands.is_parent
 
   pub other_stood : Stood old.nodes.slots may.other may.other_node
   other_stood = stood old.nodes.slots may.other may.other_node may.has_other
 
-  pub up : HasUpper tree parent may.may.parent_node
-  up = has_upper tree parent may.may.parent_node kept.legal may.may.is_parent may.may.no_root
+  pub up : HasUpper tree parent may.may.stands.parent_node
+  up = has_upper tree parent may.may.stands.parent_node kept.legal may.may.stands.is_parent may.may.no_root
 
   pub upper_stood : Stood old.nodes.slots up.upper up.upper_node
   upper_stood = stood old.nodes.slots up.upper up.upper_node up.has
 
-  other_among : IsAmong may.may.children may.other
-  other_among = permuted_among (key ∷ may.other ∷ []) may.may.children may.other may.may.two (inr (inl refl))
+  other_among : IsAmong may.may.stands.children may.other
+  other_among = permuted_among (key ∷ may.other ∷ []) may.may.stands.children may.other may.may.two (inr (inl refl))
 
   other_below : may.other_node.parent ≡ Some parent
   other_below =
-      let h = kept.legal.nodes parent may.may.parent_node may.may.is_parent in
-      let found = ((subst (IsLegalContent tree parent ((parent, may.may.parent_node) ∷ h.above)) may.may.inner_node h.content).1 may.other).0 other_among in
+      let h = kept.legal.nodes parent may.may.stands.parent_node may.may.stands.is_parent in
+      let found = ((subst (IsLegalContent tree parent ((parent, may.may.stands.parent_node) ∷ h.above)) may.may.stands.inner_node h.content).1 may.other).0 other_among in
       ap (λ n. n.parent) (sym (one_node tree may.other found.0 may.other_node found.1 may.has_other)) ∙ found.2
 
-  parent_reached : IsPath tree (Some parent) ((parent, may.may.parent_node) ∷ up.path)
-  parent_reached = (refl, may.may.is_parent, subst (λ k. IsPath tree k up.path) (sym up.below) up.reached)
+  parent_reached : IsPath tree (Some parent) ((parent, may.may.stands.parent_node) ∷ up.path)
+  parent_reached = (refl, may.may.stands.is_parent, subst (λ k. IsPath tree k up.path) (sym up.below) up.reached)
 
-  other_reached : IsPath tree (Some may.other) ((may.other, may.other_node) ∷ (parent, may.may.parent_node) ∷ up.path)
-  other_reached = (refl, may.has_other, subst (λ k. IsPath tree k ((parent, may.may.parent_node) ∷ up.path)) (sym other_below) parent_reached)
+  other_reached : IsPath tree (Some may.other) ((may.other, may.other_node) ∷ (parent, may.may.stands.parent_node) ∷ up.path)
+  other_reached = (refl, may.has_other, subst (λ k. IsPath tree k ((parent, may.may.stands.parent_node) ∷ up.path)) (sym other_below) parent_reached)
 
   passes_upper : PassesBy up.path up.upper
   passes_upper = passes_start tree up.upper up.path up.reached
 
   pub parent_apart : parent ≢ key
-  parent_apart = apart_from_leaf tree parent key may.may.parent_node may.may.node may.may.split may.may.children may.may.is_parent may.may.inner_node may.may.is_leaf may.may.empty
+  parent_apart = apart_from_leaf tree parent key may.may.stands.parent_node may.may.stands.node may.may.stands.split may.may.stands.children may.may.stands.is_parent may.may.stands.inner_node may.may.stands.has may.may.empty
 
   pub upper_apart : up.upper ≢ key
-  upper_apart = apart_from_leaf tree up.upper key up.upper_node may.may.node up.split up.children up.has up.content may.may.is_leaf may.may.empty
+  upper_apart = apart_from_leaf tree up.upper key up.upper_node may.may.stands.node up.split up.children up.has up.content may.may.stands.has may.may.empty
 
   pub other_apart : may.other ≢ key
-  other_apart e = (permuted_distinct may.may.children (key ∷ may.other ∷ []) (IsPermutation-sym (key ∷ may.other ∷ []) may.may.children may.may.two) (children_distinct tree parent may.may.parent_node may.may.split may.may.children kept.legal may.may.is_parent may.may.inner_node)).0 (inl e)
+  other_apart e = (permuted_distinct may.may.stands.children (key ∷ may.other ∷ []) (IsPermutation-sym (key ∷ may.other ∷ []) may.may.stands.children may.may.two) (children_distinct tree parent may.may.stands.parent_node may.may.stands.split may.may.stands.children kept.legal may.may.stands.is_parent may.may.stands.inner_node)).0 (inl e)
 
   pub other_no_parent : may.other ≢ parent
-  other_no_parent e = no_return tree may.other may.other_node ((parent, may.may.parent_node) ∷ up.path) other_reached (inl (sym e))
+  other_no_parent e = no_return tree may.other may.other_node ((parent, may.may.stands.parent_node) ∷ up.path) other_reached (inl (sym e))
 
   pub upper_no_parent : up.upper ≢ parent
-  upper_no_parent e = no_return tree parent may.may.parent_node up.path parent_reached (subst (PassesBy up.path) e passes_upper)
+  upper_no_parent e = no_return tree parent may.may.stands.parent_node up.path parent_reached (subst (PassesBy up.path) e passes_upper)
 
   pub upper_no_other : up.upper ≢ may.other
-  upper_no_other e = no_return tree may.other may.other_node ((parent, may.may.parent_node) ∷ up.path) other_reached (inr (subst (PassesBy up.path) e passes_upper))
+  upper_no_other e = no_return tree may.other may.other_node ((parent, may.may.stands.parent_node) ∷ up.path) other_reached (inr (subst (PassesBy up.path) e passes_upper))
 
   -- ---- what the code asks for
   abbrev pub may_take_both : MayTakeBoth old.nodes key
@@ -171,9 +171,9 @@ module _ (old : Inside) (key : ℕ) (cells : List CellPair) (kept : IsKept old) 
     has_parent = parent_stood.got;
     has_other = other_stood.got;
     has_upper = upper_stood.got;
-    below = ap (λ n. n.parent) here.read ∙ may.may.below;
+    below = ap (λ n. n.parent) here.read ∙ may.may.stands.below;
     below_upper = ap (λ n. n.parent) parent_stood.read ∙ up.below;
-    besides = (may.may.split, may.may.children, ap (λ n. n.content) parent_stood.read ∙ may.may.inner_node, may.may.two);
+    besides = (may.may.stands.split, may.may.stands.children, ap (λ n. n.content) parent_stood.read ∙ may.may.stands.inner_node, may.may.two);
     child = is_below old kept up.upper upper_stood.kept up.split up.children upper_stood.got (ap (λ n. n.content) upper_stood.read ∙ up.content) parent parent_stood.kept parent_stood.got up.among;
     apart = (
       (λ a. elim a as (λ _. ⊥) [ inl e ↦ parent_apart e | inr (inl e) ↦ other_apart e | inr (inr (inl e)) ↦ upper_apart e | inr (inr (inr h)) ↦ absurd h ]),
@@ -189,7 +189,7 @@ module _ (old : Inside) (key : ℕ) (cells : List CellPair) (kept : IsKept old) 
     new = without_leaf old nodes
 
     abbrev first : List Binding
-    first = may.may.parent_node.bindings
+    first = may.may.stands.parent_node.bindings
 
     abbrev second : List Binding
     second = may.other_node.bindings
@@ -228,10 +228,10 @@ module _ (old : Inside) (key : ℕ) (cells : List CellPair) (kept : IsKept old) 
     joins : Joins tree (tree_of new) key may.other
     joins = record {
       parent = parent;
-      parent_node = may.may.parent_node;
+      parent_node = may.may.stands.parent_node;
       other_node = may.other_node;
       above = up.upper;
-      was_parent = may.may.is_parent;
+      was_parent = may.may.stands.is_parent;
       below_parent = up.below;
       was_below = may.has_other;
       child_of = other_below;
@@ -272,7 +272,7 @@ module _ (old : Inside) (key : ℕ) (cells : List CellPair) (kept : IsKept old) 
     -- the other child gives the split a term of the head that the parent gave it
     turns : (n : ℕ) (h : Head) → HeadsAt tree n parent h → HeadsAt (tree_of new) n may.other h
     turns n h (t, (node, has, binds), head) =
-        let among : IsAmong first (n, t) = subst (λ x. IsAmong x.bindings (n, t)) (one_node tree parent node may.may.parent_node has may.may.is_parent) binds in
+        let among : IsAmong first (n, t) = subst (λ x. IsAmong x.bindings (n, t)) (one_node tree parent node may.may.stands.parent_node has may.may.stands.is_parent) binds in
         let same = head_stays (image same_variable (substitution_of second)) t t (image_keeps second) (no_indicator t h head) (same_head_self t) in (
           applied second t,
           (joined_of, has_joined, among_front (carried first second) _ (n, applied second t) (carried_among first second n t among)),
@@ -282,7 +282,7 @@ module _ (old : Inside) (key : ℕ) (cells : List CellPair) (kept : IsKept old) 
     -- the leaf and the other child are the parent's alone, and the parent is the upper node's
     not_these : (k : ℕ) (n : Node Term) (m : ℕ) (cs : List ℕ) → k ≢ parent → HasNode tree k n → n.content ≡ inner m cs → (c : ℕ) → IsAmong cs c → (c ≢ key) × (c ≢ may.other)
     not_these k n m cs apart has content c a = (
-      (λ e. apart (only_parent tree key parent k may.may.node n m cs kept.legal may.may.is_leaf may.may.below has content (subst (IsAmong cs) e a))),
+      (λ e. apart (only_parent tree key parent k may.may.stands.node n m cs kept.legal may.may.stands.has may.may.stands.below has content (subst (IsAmong cs) e a))),
       (λ e. apart (only_parent tree may.other parent k may.other_node n m cs kept.legal may.has_other other_below has content (subst (IsAmong cs) e a))),
     )
 
@@ -309,7 +309,7 @@ module _ (old : Inside) (key : ℕ) (cells : List CellPair) (kept : IsKept old) 
           known_from (tree_of new) x.content m cs e
           (heads_each tree (tree_of new) m (heads_of x.content) cs
           (λ c h a. keeps_heads m c h (not_these k (node_of x) m cs no_parent has e c a).0
-          (λ f. no_upper (only_parent tree parent up.upper k may.may.parent_node (node_of x) m cs kept.legal may.may.is_parent up.below has e (subst (IsAmong cs) f a)))
+          (λ f. no_upper (only_parent tree parent up.upper k may.may.stands.parent_node (node_of x) m cs kept.legal may.may.stands.is_parent up.below has e (subst (IsAmong cs) f a)))
           (not_these k (node_of x) m cs no_parent has e c a).1)
           (known_told tree x.content m cs e (kept.heads k x got)))
 
@@ -347,8 +347,8 @@ module _ (old : Inside) (key : ℕ) (cells : List CellPair) (kept : IsKept old) 
     leaf_content : content_of here.kept.content ≡ leaf []
     leaf_content = ap (λ n. n.content) here.read ∙ may.may.empty
 
-    parent_inner : content_of parent_stood.kept.content ≡ inner may.may.split may.may.children
-    parent_inner = ap (λ n. n.content) parent_stood.read ∙ may.may.inner_node
+    parent_inner : content_of parent_stood.kept.content ≡ inner may.may.stands.split may.may.stands.children
+    parent_inner = ap (λ n. n.content) parent_stood.read ∙ may.may.stands.inner_node
 
     leaves_fewer : counted leaves_of (tree_of new).nodes + 1 ≡ counted leaves_of tree.nodes
     leaves_fewer = omega (arith, taken.counts leaves_of, ap leaves_of leaf_content, ap leaves_of parent_inner, ap leaves_of taken.relinks.was, ap leaves_of taken.relinks.is)

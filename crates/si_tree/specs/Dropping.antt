@@ -24,7 +24,7 @@ pub record MayJoinBy (tree : Tree Term) (key : ℕ) (bindings : List CellPair) :
   pub may : MayJoin tree key other
   pub has_other : HasNode tree other other_node
   pub composes : StandForBindings bindings
-      (composed may.parent_node.bindings other_node.bindings)
+      (composed may.stands.parent_node.bindings other_node.bindings)
 
 -- bindings are there exactly where the leaf's parent isn't the root and has one other child
 abbrev pub MayDrop : Tree Term → ℕ → Option (List CellPair) → Type 0

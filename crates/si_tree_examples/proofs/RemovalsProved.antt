@@ -89,17 +89,19 @@ relinked = record {
 
 may_join : MayJoin five_unmerged 3 1
 may_join = record {
-  node = bare_b;
-  parent = 2;
-  parent_node = middle;
-  split = 1;
-  children = 1 ∷ 3 ∷ [];
-  is_leaf = refl;
+  stands = record {
+    node = bare_b;
+    parent = 2;
+    parent_node = middle;
+    split = 1;
+    children = 1 ∷ 3 ∷ [];
+    has = refl;
+    below = refl;
+    is_parent = refl;
+    inner_node = refl;
+  };
   empty = refl;
-  below = refl;
   no_root = λ e. omega (arith, e);
-  is_parent = refl;
-  inner_node = refl;
   two = IsPermutation-middle (3 ∷ []) 1 [];
 }
 
@@ -164,8 +166,8 @@ bare_c = leaf_holding 0 ((0, c) ∷ []) []
 
 pub no_root_joined : NoRootJoined
 no_root_joined h =
-    let child : bare_c ≡ h.node = one_node five_bare_c 4 bare_c h.node refl h.is_leaf in
-    h.no_root (sym (same_Some 0 h.parent (ap (λ n. n.parent) child ∙ h.below)))
+    let child : bare_c ≡ h.stands.node = one_node five_bare_c 4 bare_c h.stands.node refl h.stands.has in
+    h.no_root (sym (same_Some 0 h.stands.parent (ap (λ n. n.parent) child ∙ h.stands.below)))
 
 -- ---- the removal
 is_lost : (t : Term) (postings : List Posting) → IsLeaf five_nodes 3 t postings → t ≡ f (b ∷ [])
@@ -183,16 +185,18 @@ removes_last = record {
 
 due_at_b : IsJoinDue five_nodes 3
 due_at_b = record {
-  node = leaf_b;
-  parent = 2;
-  parent_node = middle;
-  split = 1;
-  children = 1 ∷ 3 ∷ [];
-  has = refl;
-  below = refl;
+  stands = record {
+    node = leaf_b;
+    parent = 2;
+    parent_node = middle;
+    split = 1;
+    children = 1 ∷ 3 ∷ [];
+    has = refl;
+    below = refl;
+    is_parent = refl;
+    inner_node = refl;
+  };
   no_root = λ e. omega (arith, e);
-  is_parent = refl;
-  inner_node = refl;
   two = refl;
 }
 
@@ -229,8 +233,8 @@ removes_either = (
 -- the parent of the leaf of c is the root
 none_due_at_c : IsJoinDue five_nodes 4 → ⊥
 none_due_at_c due =
-    let child : leaf_c ≡ due.node = one_node five_nodes 4 leaf_c due.node refl due.has in
-    due.no_root (sym (same_Some 0 due.parent (ap (λ n. n.parent) child ∙ due.below)))
+    let child : leaf_c ≡ due.stands.node = one_node five_nodes 4 leaf_c due.stands.node refl due.stands.has in
+    due.no_root (sym (same_Some 0 due.stands.parent (ap (λ n. n.parent) child ∙ due.stands.below)))
 
 pub no_leaf_below_root : NoLeafBelowRoot
 no_leaf_below_root h = omega (arith, h.only_due none_due_at_c)

@@ -5,15 +5,15 @@ use Rattle.si_defs.proofs.ListLaws.{among_either}
 use Rattle.si_flat.specs.declared.Cell.{Cell}
 use Rattle.si_flat.specs.Cells.{Term, StandsFor, cells_of}
 use Rattle.si_legal.specs.declared.Posting.{Posting}
-use Rattle.si_legal.specs.Trees.{Tree, IsLeaf, StandsIn}
+use Rattle.si_legal.specs.Trees.{Tree, StandsIn}
 use Rattle.si_legal.specs.Legal.{IsLegal, IsLeafTerm}
 use Rattle.si_legal.specs.StoredSets.{AreUnder, IsUnder, Gains, Loses}
 use Rattle.si_legal.proofs.PathLaws.{one_node}
 use Rattle.si_changes.proofs.EqualTerms.{term_or_not}
 use Rattle.si_changes.proofs.PostingLaws.{among_without}
-use Rattle.si_changes.proofs.StoredLaws.{one_leaf}
+use Rattle.si_changes.proofs.StoredLaws.{among_leaf}
 use Rattle.si_tree.specs.NewTrees.{IsRootAlone}
-use Rattle.si_tree.specs.Changes.{HasPosting, DropsPosting}
+use Rattle.si_tree.specs.Changes.{DropsPosting}
 use Rattle.si_tree.proofs.RootLaws.{no_leaf}
 use Rattle.si_insert.specs.Inserting.{MayInsert, Inserts}
 use Rattle.si_insert.proofs.AnewLaws.{stored_there}
@@ -26,13 +26,6 @@ pub none_stored : (tree : Tree Term) → IsRootAlone tree → AreBelow tree 0
 none_stored tree alone t p h = absurd (no_leaf tree h.0 t h.1.0 alone h.1.1)
 
 -- ---- under one term
-among_leaf : (tree : Tree Term) (t : Term) (ps : List Posting) (q : Posting) → IsLegal tree → AreUnder tree t ps → IsUnder tree t q → IsAmong ps q
-among_leaf tree t ps q legal (inl there) h =
-    let same = legal.terms_differ h.0 there.0 t h.1.0 ps h.1.1 there.1 in
-    let here : IsLeaf tree there.0 t h.1.0 = subst (λ k. IsLeaf tree k t h.1.0) same h.1.1 in
-    subst (λ qs. IsAmong qs q) (one_leaf tree there.0 t t h.1.0 ps here there.1).1 h.1.2
-among_leaf tree t ps q legal (inr none) h = absurd (none.0 h.0 h.1.0 h.1.1)
-
 below_in : (tree : Tree Term) (t : Term) (ps : List Posting) (n : ℕ) (q : Posting) → AreUnder tree t ps → AreBelow tree n → IsAmong ps q → q.clause < n
 below_in tree t ps n q (inl there) below a = below t q (there.0, (ps, there.1, a))
 below_in tree t ps n q (inr none) below a = absurd (subst (λ qs. IsAmong qs q) none.1 a)
@@ -79,12 +72,3 @@ module _ (old new : Tree Term) (cells : List Cell) (t : Term) (p : Posting) (key
 
   pub stands_in : StandsIn new key t p
   stands_in = i.stands t (stands_for cells t e is)
-
-pub has_posting : (tree : Tree Term) (key : ℕ) (t : Term) (p : Posting) → StandsIn tree key t p → HasPosting tree key p
-has_posting tree key t p stands = record {
-  node = stands.1.node;
-  postings = stands.0;
-  has = stands.1.reached.1;
-  content = stands.1.content;
-  among = stands.2;
-}

@@ -3,12 +3,13 @@ use Rattle.std.proofs.Common.{◌≡◌, ◌≢◌, ◌⊎◌, ◌↔◌, inl, i
 use Rattle.std.proofs.lemmas.Bool.Decides.{eqb_tells}
 use Rattle.std.proofs.lemmas.Option.{same_Some}
 use Rattle.si_defs.specs.declared.TheConstants.{MOST_OCCURRENCES}
+use Rattle.si_defs.specs.Substitutions.{IsAmong}
 use Rattle.si_defs.proofs.ListLaws.{same_first}
 use Rattle.si_flat.specs.Cells.{Term}
 use Rattle.si_legal.specs.declared.Posting.{Posting}
 use Rattle.si_legal.specs.Trees.{Content, inner, leaf, Node, Tree, HasNode, Path, IsPath, path_term, IsLeaf, StandsIn}
 use Rattle.si_legal.specs.Legal.{IsLegal}
-use Rattle.si_legal.specs.StoredSets.{AreUnder, OthersStay, StaysStored, KeepsLeaves}
+use Rattle.si_legal.specs.StoredSets.{AreUnder, IsUnder, OthersStay, StaysStored, KeepsLeaves}
 use Rattle.si_legal.proofs.PathLaws.{one_node, one_path}
 use Rattle.si_changes.specs.Nodes.{IsVacant, with_content, ChangesChildren}
 use Rattle.si_changes.proofs.EqualTerms.{term_or_not}
@@ -38,6 +39,14 @@ one_leaf tree key t u ps qs one two =
       one.term ∙ ap path_term same ∙ sym two.term,
       same_leaf ps qs (sym one.content ∙ ap (λ s. s.1.content) (same_first same) ∙ two.content),
     )
+
+-- a posting under a term is one of those of its leaf
+pub among_leaf : (tree : Tree Term) (t : Term) (ps : List Posting) (q : Posting) → IsLegal tree → AreUnder tree t ps → IsUnder tree t q → IsAmong ps q
+among_leaf tree t ps q legal (inl there) h =
+    let same = legal.terms_differ h.0 there.0 t h.1.0 ps h.1.1 there.1 in
+    let here : IsLeaf tree there.0 t h.1.0 = subst (λ k. IsLeaf tree k t h.1.0) same h.1.1 in
+    subst (λ qs. IsAmong qs q) (one_leaf tree there.0 t t h.1.0 ps here there.1).1 h.1.2
+among_leaf tree t ps q legal (inr none) h = absurd (none.0 h.0 h.1.0 h.1.1)
 
 pub no_leaf_here : (tree : Tree Term) (key : ℕ) (node : Node Term) (split : ℕ) (children : List ℕ) (t : Term) (ps : List Posting) → HasNode tree key node → node.content ≡ inner split children → IsLeaf tree key t ps → ⊥
 no_leaf_here tree key node split children t ps has is h = inner_no_leaf split children ps (sym is ∙ ap (λ n. n.content) (one_node tree key node h.node has h.reached.1) ∙ h.content)

@@ -11,21 +11,13 @@ use Rattle.si_changes.proofs.EqualTerms.{term_or_not}
 use Rattle.si_insert.specs.Inserting.{Inserts, KeepsAll}
 use Rattle.si_insert.proofs.AnewLaws.{stored_there}
 use Rattle.si_prune.specs.Pruning.{Removes}
-use Rattle.si_tree.specs.Changes.{HasPosting}
 use Rattle.si_forest.specs.OnePosting.{GainsOne, KeepsTree, LosesOne}
 use Rattle.si_flat.specs.declared.Cell.{Cell}
 use Rattle.si_flat.specs.Cells.{StandsFor}
 use Rattle.si_changes.proofs.PostingLaws.{among_without}
-use Rattle.si_changes.proofs.StoredLaws.{one_leaf}
+use Rattle.si_changes.proofs.StoredLaws.{one_leaf, among_leaf}
 
 -- ---- the postings under one term
-among_leaf : (tree : Tree Term) (t : Term) (ps : List Posting) (q : Posting) → IsLegal tree → AreUnder tree t ps → IsUnder tree t q → IsAmong ps q
-among_leaf tree t ps q legal (inl there) under =
-    let same = legal.terms_differ under.0 there.0 t under.1.0 ps under.1.1 there.1 in
-    let leaf_is : IsLeaf tree there.0 t under.1.0 = subst (λ k. IsLeaf tree k t under.1.0) same under.1.1 in
-    subst (λ qs. IsAmong qs q) (one_leaf tree there.0 t t under.1.0 ps leaf_is there.1).1 under.1.2
-among_leaf tree t ps q legal (inr none) under = absurd (none.0 under.0 under.1.0 under.1.1)
-
 under_leaf : (tree : Tree Term) (t : Term) (ps : List Posting) (q : Posting) → AreUnder tree t ps → IsAmong ps q → IsUnder tree t q
 under_leaf tree t ps q (inl there) among = (there.0, (ps, there.1, among))
 under_leaf tree t ps q (inr none) among = absurd (subst (λ qs. IsAmong qs q) none.1 among)
@@ -112,15 +104,6 @@ kept old new legal k = record {
   legal = legal;
   stored = λ t p. (stored_there new old t p (λ ps h. (k.0 t ps).1 h), stored_there old new t p (λ ps h. (k.0 t ps).0 h));
   keeps = k.1;
-}
-
-pub has_posting : (tree : Tree Term) (key : ℕ) (t : Term) (p : Posting) → StandsIn tree key t p → HasPosting tree key p
-has_posting tree key t p stands = record {
-  node = stands.1.node;
-  postings = stands.0;
-  has = stands.1.reached.1;
-  content = stands.1.content;
-  among = stands.2;
 }
 
 pub removed : (old new : Tree Term) (key : ℕ) (t : Term) (p : Posting) → IsLegal old → IsLegal new → StandsIn old key t p → Removes old new key p → LosesOne old new p

@@ -5,7 +5,7 @@ use Rattle.slab.specs.Slab.{get, Updates, with_value}
 use Rattle.slab.proofs.SlabLemmas.{Updates-with_value}
 use Rattle.si_flat.specs.Cells.{Term}
 use Rattle.si_legal.specs.declared.Posting.{Posting}
-use Rattle.si_legal.specs.Trees.{Content, inner, leaf, Node, Tree, HasNode, IsLeaf}
+use Rattle.si_legal.specs.Trees.{Content, inner, leaf, Node, Tree, HasNode, IsLeaf, StandsIn}
 use Rattle.si_legal.specs.Legal.{IsLegal}
 use Rattle.si_legal.specs.Counts.{leaves_of, unmerged_of, leaf_count, unmerged_count}
 use Rattle.si_legal.proofs.PathLaws.{one_node}
@@ -13,12 +13,22 @@ use Rattle.si_changes.specs.Nodes.{ChangesPostings}
 use Rattle.si_changes.proofs.PostingLaws.{gains_posting, loses_posting}
 use Rattle.si_tree.specs.Nodes.{TreeNode}
 use Rattle.si_tree.specs.declared.tree.Tree.TheInside.{Inside}
-use Rattle.si_tree.specs.Changes.{IsNotStored, AddsPosting, DropsPosting, IsWithout}
+use Rattle.si_tree.specs.Changes.{HasPosting, IsNotStored, AddsPosting, DropsPosting, IsWithout}
 use Rattle.si_tree.specs.KeptNodes.{node_of, slot_of, tree_of, content_of, IsKept, IsLeafNode, IsSameBut, postings_in}
 use Rattle.si_tree.specs.Reading.{postings_of}
 use Rattle.si_tree.proofs.SlotLaws.{node_read}
 use Rattle.si_tree.proofs.CountLaws.{weight, counted_least, counted_below}
 use Rattle.si_tree.proofs.KeptLaws.{ChangesLeaf, changes, leaf_kept, same_tree}
+
+-- the key has the postings that stand there
+pub has_posting : (tree : Tree Term) (key : ℕ) (t : Term) (p : Posting) → StandsIn tree key t p → HasPosting tree key p
+has_posting tree key t p stands = record {
+  node = stands.1.node;
+  postings = stands.0;
+  has = stands.1.reached.1;
+  content = stands.1.content;
+  among = stands.2;
+}
 
 -- the content of a leaf
 content_is : (n : TreeNode) (ps : List Posting) → IsLeafNode n → postings_in n ≡ ps → content_of n.content ≡ leaf ps

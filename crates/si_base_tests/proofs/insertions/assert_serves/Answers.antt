@@ -2,7 +2,8 @@ use Rattle.std.proofs.Common.{ℕ, refl, arith}
 use Rattle.si_legal.specs.declared.Posting.{Posting}
 use Rattle.si_legal.specs.Legal.{IsLeafTerm}
 use Rattle.si_base_tests.proofs.Vectors.{constant, a, b, c, g}
-use Rattle.si_base_tests.proofs.Postings.{none_stored, dropped, inserted, stands_in, may_insert, has_posting}
+use Rattle.si_tree.proofs.PostingSteps.{has_posting}
+use Rattle.si_base_tests.proofs.Postings.{none_stored, dropped, inserted, stands_in, may_insert}
 use Rattle.si_base_tests.proofs.insertions.assert_serves.Goals as goal
 
 abbrev first : Posting

@@ -1,4 +1,5 @@
-use Rattle.si_forest.proofs.OneLaws.{has_posting, removed}
+use Rattle.si_tree.proofs.PostingSteps.{has_posting}
+use Rattle.si_forest.proofs.OneLaws.{removed}
 use Rattle.si_forest.proofs.pair.take.Goals as goal
 
 pub remove-requires : goal.remove-requires

@@ -18,7 +18,7 @@ use Rattle.si_harvest.specs.declared.reading.Reading.{Reading}
 use Rattle.si_harvest.specs.Opened.{opened, is_selected, OpensInside, IsUnopened, FetchesOnce, TriesClause, HasFault, HasFetched}
 use Rattle.si_harvest.specs.Underway.{Lists, Narrows, IsAtPoint, Stand, Finishes, IsUnderway}
 use Rattle.si_harvest.specs.Gains.{GainsByLoad}
-use Rattle.si_harvest.proofs.Stands.{innermost, stand_names, stand_selected, stand_unselected, selected-reverse}
+use Rattle.si_harvest.proofs.Stands.{moved, innermost, stand_names, stand_selected, stand_unselected, selected-reverse}
 use Rattle.si_harvest.proofs.Finishing.{finishes_end, finishes_over, finishes_accepted, finishes_opened, finishes_stuck, finishes_refused, finishes_barred, finishes_withheld, loads_opened}
 
 -- the point of the innermost file, and those of the others
@@ -33,6 +33,17 @@ front : (f : OpenFile) (fs : List OpenFile) (ss : List ReadingPoint) → Stand (
 front f fs [] h = absurd h
 front f fs (s ∷ ss) h = record { point = s; outer = ss; first = refl; own = h.0; others = h.1 }
 
+-- ---- after an item of the innermost file
+abbrev behind : OpenFile → ReadingPoint → ℕ → ReadingPoint
+behind f s end = record s { rest = drop end f.bytes.items }
+
+stand_behind : (items : List OpenFile) (f : OpenFile) (end : ℕ) (outer : List ReadingPoint) (s : ReadingPoint) → IsAtPoint f outer s → Stand (reverse items) outer
+    → Stand (reverse (moved items f end)) (behind f s end ∷ outer)
+stand_behind items f end outer s h others = subst (λ fs. Stand fs (behind f s end ∷ outer)) (sym (innermost items (record f { at = end }))) (after, others) where
+  after : IsAtPoint (record f { at = end }) outer (behind f s end)
+  after = record { named = h.named; whole = h.whole; among = h.among; selects = h.selects; left = refl }
+
+-- ---- a load that is under way
 module _ (told : Option Files) (bounds : Bounds) (rules : Rules) (start : List Clause) (file : Bytes) where
   Now : Reading → List Clause → Type 0
   Now reading state = IsUnderway told bounds rules start file reading state
@@ -84,24 +95,20 @@ module _ (told : Option Files) (bounds : Bounds) (rules : Rules) (start : List C
       (finishes_end files bounds rules w.point w.outer old.fetches state es fault (subst AreBlanks (sym w.own.left) b)
       (subst (λ n. Finishes files bounds rules w.outer n state es fault) made h)))
 
-  -- the point after an item
-  behind : (f : OpenFile) (outer : List ReadingPoint) (s : ReadingPoint) (end : ℕ) → IsAtPoint f outer s → IsAtPoint (record f { at = end }) outer (record s { rest = drop end f.bytes.items })
-  behind f outer s end h = record { named = h.named; whole = h.whole; among = h.among; selects = h.selects; left = refl }
-
   -- a clause is passed over, or accepted
   pub takes : (old new : Reading) (state state' : List Clause) (items : List OpenFile) (f : OpenFile) (end : ℕ) (clause : Clause) → old.files.items ≡ items ++ f ∷ []
       → BeginsWithItem (drop f.at f.bytes.items) (clause_item clause) (drop end f.bytes.items)
-      → new.files.items ≡ items ++ record f { at = end } ∷ [] → new.fetches ≡ old.fetches → TriesClause rules new.files.items clause state state'
+      → new.files.items ≡ moved items f end → new.fetches ≡ old.fetches → TriesClause rules new.files.items clause state state'
       → IsUnderway told bounds rules start file old state → IsUnderway told bounds rules start file new state'
   takes old new state state' items f end clause e b same made t u = by t where
     w : Front f (reverse items) u.points
     w = now_front old state items f e u
 
     next : ReadingPoint
-    next = record w.point { rest = drop end f.bytes.items }
+    next = behind f w.point end
 
     stands : Stand (reverse new.files.items) (next ∷ w.outer)
-    stands = subst (λ fs. Stand fs (next ∷ w.outer)) (sym (ap (λ l. reverse l) same ∙ innermost items (record f { at = end }))) (behind f w.outer w.point end w.own, w.others)
+    stands = subst (λ fs. Stand (reverse fs) (next ∷ w.outer)) (sym same) (stand_behind items f end w.outer w.point w.own w.others)
 
     item : BeginsWithItem w.point.rest (clause_item clause) (drop end f.bytes.items)
     item = subst (λ l. BeginsWithItem l (clause_item clause) (drop end f.bytes.items)) (sym w.own.left) b
@@ -125,26 +132,23 @@ module _ (told : Option Files) (bounds : Bounds) (rules : Rules) (start : List C
   -- a clause is refused
   pub is_refused : (old : Reading) (state : List Clause) (items : List OpenFile) (f : OpenFile) (end : ℕ) (clause : Clause) (made : ℕ) (fault : Fault) → old.files.items ≡ items ++ f ∷ []
       → BeginsWithItem (drop f.at f.bytes.items) (clause_item clause) (drop end f.bytes.items)
-      → is_selected (items ++ record f { at = end } ∷ []) clause.name ≡ true → IsRejected rules state clause fault → made ≡ old.fetches
+      → is_selected (moved items f end) clause.name ≡ true → IsRejected rules state clause fault → made ≡ old.fetches
       → IsUnderway told bounds rules start file old state → HasFault told bounds rules start file made fault
   is_refused old state items f end clause made fault e b each r same_made u = by fault r where
     w : Front f (reverse items) u.points
     w = now_front old state items f e u
 
     next : ReadingPoint
-    next = record w.point { rest = drop end f.bytes.items }
+    next = behind f w.point end
 
-    moved : List OpenFile
-    moved = items ++ record f { at = end } ∷ []
-
-    stands : Stand (reverse moved) (next ∷ w.outer)
-    stands = subst (λ fs. Stand fs (next ∷ w.outer)) (sym (innermost items (record f { at = end }))) (behind f w.outer w.point end w.own, w.others)
+    stands : Stand (reverse (moved items f end)) (next ∷ w.outer)
+    stands = stand_behind items f end w.outer w.point w.own w.others
 
     item : BeginsWithItem w.point.rest (clause_item clause) (drop end f.bytes.items)
     item = subst (λ l. BeginsWithItem l (clause_item clause) (drop end f.bytes.items)) (sym w.own.left) b
 
     selected : IsSelected w.point.around clause.name
-    selected = stand_selected (reverse moved) (next ∷ w.outer) clause.name stands (selected-reverse moved clause.name ∙ each)
+    selected = stand_selected (reverse (moved items f end)) (next ∷ w.outer) clause.name stands (selected-reverse (moved items f end) clause.name ∙ each)
 
     by : (x : Fault) → IsRejected rules state clause x → HasFault told bounds rules start file made x
     by (rejected c refusal) (same, refuses) =
@@ -180,21 +184,18 @@ module _ (told : Option Files) (bounds : Bounds) (rules : Rules) (start : List C
   -- the file can't be opened inside the others
   pub is_unopened : (old : Reading) (state : List Clause) (items : List OpenFile) (f : OpenFile) (end : ℕ) (name : Bytes) (selection : Selection) (count : ℕ) (fault : Fault)
       → old.files.items ≡ items ++ f ∷ [] → BeginsWithItem (drop f.at f.bytes.items) (include_item name selection) (drop end f.bytes.items)
-      → IsUnopened told bounds name (items ++ record f { at = end } ∷ []) old.fetches count fault
+      → IsUnopened told bounds name (moved items f end) old.fetches count fault
       → IsUnderway told bounds rules start file old state → HasFault told bounds rules start file count fault
   is_unopened old state items f end name selection count fault e b h u =
       has_fault old state (ask name ∷ []) count fault u (later h)
       (λ files t. (subst (λ ss. Finishes files bounds rules ss old.fetches state (ask name ∷ []) (Some fault)) (sym w.first) (by files t h), counted files t h)) where
-        moved : List OpenFile
-        moved = items ++ record f { at = end } ∷ []
-
-        later : IsUnopened told bounds name moved old.fetches count fault → old.fetches ≤ count
+        later : IsUnopened told bounds name (moved items f end) old.fetches count fault → old.fetches ≤ count
         later (inl (no_one, same_count)) = omega (arith, same_count)
         later (inr (may, no_file, one_more)) = omega (arith, one_more)
 
-        counted : (files : Files) → told ≡ Some files → IsUnopened told bounds name moved old.fetches count fault → count ≡ fetches_made (u.events ++ ask name ∷ []) (Some fault)
+        counted : (files : Files) → told ≡ Some files → IsUnopened told bounds name (moved items f end) old.fetches count fault → count ≡ fetches_made (u.events ++ ask name ∷ []) (Some fault)
         counted files t (inl (no_one, same_count)) =
-            same_count ∙ u.asked ∙ made_barred bounds (opened moved) old.fetches name fault u.events no_one
+            same_count ∙ u.asked ∙ made_barred bounds (opened (moved items f end)) old.fetches name fault u.events no_one
         counted files t (inr (may, no_file, one_more)) =
             one_more ∙ ap (λ n. n + 1) u.asked ∙ made_withheld files bounds name fault u.events (subst (λ x. IfSome x (λ fs. IsWithheld fs bounds name fault)) t no_file)
 
@@ -202,18 +203,18 @@ module _ (told : Option Files) (bounds : Bounds) (rules : Rules) (start : List C
         w = now_front old state items f e u
 
         next : ReadingPoint
-        next = record w.point { rest = drop end f.bytes.items }
+        next = behind f w.point end
 
-        stands : Stand (reverse moved) (next ∷ w.outer)
-        stands = subst (λ fs. Stand fs (next ∷ w.outer)) (sym (innermost items (record f { at = end }))) (behind f w.outer w.point end w.own, w.others)
+        stands : Stand (reverse (moved items f end)) (next ∷ w.outer)
+        stands = stand_behind items f end w.outer w.point w.own w.others
 
-        names : opened moved ≡ w.point.opened
-        names = sym (stand_names (reverse moved) (next ∷ w.outer) stands)
+        names : opened (moved items f end) ≡ w.point.opened
+        names = sym (stand_names (reverse (moved items f end)) (next ∷ w.outer) stands)
 
         item : BeginsWithItem w.point.rest (include_item name selection) (drop end f.bytes.items)
         item = subst (λ l. BeginsWithItem l (include_item name selection) (drop end f.bytes.items)) (sym w.own.left) b
 
-        by : (files : Files) → told ≡ Some files → IsUnopened told bounds name moved old.fetches count fault
+        by : (files : Files) → told ≡ Some files → IsUnopened told bounds name (moved items f end) old.fetches count fault
             → Finishes files bounds rules (w.point ∷ w.outer) old.fetches state (ask name ∷ []) (Some fault)
         by files t (inl (no_one, same_count)) =
             finishes_barred files bounds rules w.point w.outer old.fetches state name selection (drop end f.bytes.items) fault item
@@ -233,10 +234,10 @@ module _ (told : Option Files) (bounds : Bounds) (rules : Rules) (start : List C
   -- so the fetches so far are the first ones of the load
   pub once_fetched : (old : Reading) (state : List Clause) (items : List OpenFile) (f : OpenFile) (end : ℕ) (name : Bytes) (selection : Selection) (made : ℕ)
       → old.files.items ≡ items ++ f ∷ [] → BeginsWithItem (drop f.at f.bytes.items) (include_item name selection) (drop end f.bytes.items)
-      → FetchesOnce bounds name (items ++ record f { at = end } ∷ []) old.fetches made → IsUnderway told bounds rules start file old state → HasFetched told bounds rules start file made
+      → FetchesOnce bounds name (moved items f end) old.fetches made → IsUnderway told bounds rules start file old state → HasFetched told bounds rules start file made
   once_fetched old state items f end name selection made e b (inl same) u = still_fetched old state made same u
   once_fetched old state items f end name selection made e b (inr (may, one_more)) u =
-      (name, is_unopened old state items f end name selection made (failed name) e b (may_fail name (items ++ record f { at = end } ∷ []) old.fetches made may one_more) u)
+      (name, is_unopened old state items f end name selection made (failed name) e b (may_fail name (moved items f end) old.fetches made may one_more) u)
 
   narrows : (selection : Selection) (chosen : Option NameSet) (around : List (List Name)) → Lists selection chosen → Narrows chosen around (narrowed selection around)
   narrows all None around h = refl
@@ -247,23 +248,20 @@ module _ (told : Option Files) (bounds : Bounds) (rules : Rules) (start : List C
   -- the file is open inside the others
   pub enters : (old new : Reading) (state : List Clause) (items : List OpenFile) (f : OpenFile) (end : ℕ) (name : Bytes) (selection : Selection)
       → old.files.items ≡ items ++ f ∷ [] → BeginsWithItem (drop f.at f.bytes.items) (include_item name selection) (drop end f.bytes.items)
-      → OpensInside told bounds name (Lists selection) (items ++ record f { at = end } ∷ []) old.fetches new
+      → OpensInside told bounds name (Lists selection) (moved items f end) old.fetches new
       → IsUnderway told bounds rules start file old state → IsUnderway told bounds rules start file new state
   enters old new state items f end name selection e b h u = by told refl where
     w : Front f (reverse items) u.points
     w = now_front old state items f e u
 
     next : ReadingPoint
-    next = record w.point { rest = drop end f.bytes.items }
+    next = behind f w.point end
 
-    moved : List OpenFile
-    moved = items ++ record f { at = end } ∷ []
+    stands : Stand (reverse (moved items f end)) (next ∷ w.outer)
+    stands = stand_behind items f end w.outer w.point w.own w.others
 
-    stands : Stand (reverse moved) (next ∷ w.outer)
-    stands = subst (λ fs. Stand fs (next ∷ w.outer)) (sym (innermost items (record f { at = end }))) (behind f w.outer w.point end w.own, w.others)
-
-    names : w.point.opened ≡ opened moved
-    names = stand_names (reverse moved) (next ∷ w.outer) stands
+    names : w.point.opened ≡ opened (moved items f end)
+    names = stand_names (reverse (moved items f end)) (next ∷ w.outer) stands
 
     item : BeginsWithItem w.point.rest (include_item name selection) (drop end f.bytes.items)
     item = subst (λ l. BeginsWithItem l (include_item name selection) (drop end f.bytes.items)) (sym w.own.left) b
@@ -281,7 +279,7 @@ module _ (told : Option Files) (bounds : Bounds) (rules : Rules) (start : List C
     }
 
     all_stand : Stand (reverse new.files.items) (inner ∷ next ∷ w.outer)
-    all_stand = subst (λ fs. Stand fs (inner ∷ next ∷ w.outer)) (sym (ap (λ l. reverse l) h.inside ∙ innermost moved h.file)) (own, stands)
+    all_stand = subst (λ fs. Stand fs (inner ∷ next ∷ w.outer)) (sym (ap (λ l. reverse l) h.inside ∙ innermost (moved items f end) h.file)) (own, stands)
 
     may : MayAsk bounds w.point.opened old.fetches name
     may = subst (λ l. MayAsk bounds l old.fetches name) (sym names) h.may

@@ -10,6 +10,7 @@ use Rattle.si_harvest.specs.declared.names.NameSet.{NameSet}
 use Rattle.si_harvest.specs.declared.reading.Reading.{Reading}
 use Rattle.si_harvest.specs.Opened.{OpensInside}
 use Rattle.si_harvest.specs.Underway.{IsWithin, AreWithin, left_of, steps_left}
+use Rattle.si_harvest.proofs.Stands.{moved}
 use Rattle.si_harvest.proofs.Shorter.{item_shorter}
 
 -- ---- places
@@ -26,7 +27,7 @@ within_more [] f h w = (w, tt)
 within_more (x ∷ xs) f h w = (h.0, within_more xs f h.1 w)
 
 -- the file is read on
-pub within_moved : (items : List OpenFile) (f : OpenFile) (end : ℕ) → AreWithin (items ++ f ∷ []) → end ≤ length f.bytes.items → AreWithin (items ++ record f { at = end } ∷ [])
+pub within_moved : (items : List OpenFile) (f : OpenFile) (end : ℕ) → AreWithin (items ++ f ∷ []) → end ≤ length f.bytes.items → AreWithin (moved items f end)
 within_moved items f end h e =
     within_more items (record f { at = end }) (within_others items f h) (record { place = e; size = (within_last items f h).size })
 
@@ -57,7 +58,7 @@ later : (f : OpenFile) (item : Item) (end : ℕ) → BeginsWithItem (drop f.at f
 later f item end b = omega (arith, item_shorter (drop f.at f.bytes.items) item (drop end f.bytes.items) b, length-drop f.at f.bytes.items, length-drop end f.bytes.items)
 
 pub falls_item : (bounds : Bounds) (old new : Reading) (items : List OpenFile) (f : OpenFile) (item : Item) (end : ℕ) → old.files.items ≡ items ++ f ∷ []
-    → BeginsWithItem (drop f.at f.bytes.items) item (drop end f.bytes.items) → new.files.items ≡ items ++ record f { at = end } ∷ [] → new.fetches ≡ old.fetches
+    → BeginsWithItem (drop f.at f.bytes.items) item (drop end f.bytes.items) → new.files.items ≡ moved items f end → new.fetches ≡ old.fetches
     → steps_left bounds new < steps_left bounds old
 falls_item bounds old new items f item end e b n m =
     omega (
@@ -75,7 +76,7 @@ one_fetch most made width h = let split : most - made ≡ (most - (made + 1)) + 
 
 pub falls_entered : (told : Option Files) (bounds : Bounds) (name : Bytes) (AreListed : Option NameSet → Type 0) (old new : Reading) (items : List OpenFile) (f : OpenFile) (item : Item) (end : ℕ)
     → old.files.items ≡ items ++ f ∷ [] → BeginsWithItem (drop f.at f.bytes.items) item (drop end f.bytes.items)
-    → OpensInside told bounds name AreListed (items ++ record f { at = end } ∷ []) old.fetches new → steps_left bounds new < steps_left bounds old
+    → OpensInside told bounds name AreListed (moved items f end) old.fetches new → steps_left bounds new < steps_left bounds old
 falls_entered told bounds name AreListed old new items f item end e b h =
     omega (
       arith,
@@ -83,7 +84,7 @@ falls_entered told bounds name AreListed old new items f item end e b h =
       ap left_of h.inside,
       left-append items f,
       left-append items (record f { at = end }),
-      left-append (items ++ record f { at = end } ∷ []) h.file,
+      left-append (moved items f end) h.file,
       later f item end b,
       h.given.small,
       h.given.front,

@@ -1,5 +1,5 @@
 -- The points of the files that are open.
-use Rattle.std.proofs.Common.{◌≡◌, Bool, true, false, ◌&&◌, ◌||◌, List, [], ◌∷◌, ◌++◌, length, reverse, refl, sym, ap, ◌∙◌, subst, Option, None, Some, inl, inr}
+use Rattle.std.proofs.Common.{◌≡◌, ℕ, Bool, true, false, ◌&&◌, ◌||◌, List, [], ◌∷◌, ◌++◌, length, reverse, refl, sym, ap, ◌∙◌, subst, Option, None, Some, inl, inr}
 use Rattle.std.proofs.lemmas.Bool.{and_parts, false≢true}
 use Rattle.std.specs.Prelude.{bytes_eq}
 use Rattle.std.proofs.lemmas.Slice.Eq.{bytes_eq-Decides}
@@ -14,6 +14,10 @@ use Rattle.si_harvest.specs.declared.names.NameSet.{NameSet}
 use Rattle.si_harvest.specs.Opened.{file_names, opened, has_open, lists, is_selected}
 use Rattle.si_harvest.specs.Underway.{opened_at, around_at, Narrows, Stand}
 use Rattle.si_harvest.proofs.AnyLaws.{any_last}
+
+-- the files once an item of the innermost is read
+abbrev pub moved : List OpenFile → OpenFile → ℕ → List OpenFile
+moved items f end = items ++ record f { at = end } ∷ []
 
 -- the last file is the innermost
 pub innermost : (fs : List OpenFile) (f : OpenFile) → reverse (fs ++ f ∷ []) ≡ f ∷ reverse fs

@@ -22,6 +22,7 @@ use Rattle.si_harvest.specs.Underway.{IsAtPoint, IsUnderway, AreWithin, Lists}
 use Rattle.si_harvest.specs.Stepping.{StepsOn, StepsReading}
 use Rattle.si_harvest.proofs.Errors.{why_weaker}
 use Rattle.si_harvest.proofs.Moves.{at_end, takes, is_refused, is_stuck, enters, is_unopened, still_fetched, once_fetched}
+use Rattle.si_harvest.proofs.Stands.{moved}
 use Rattle.si_harvest.proofs.Safety.{within_others, within_moved, within_entered, falls_end, falls_item, falls_entered}
 
 -- what was read, in other words
@@ -50,7 +51,7 @@ module _ (told : Option Files) (bounds : Bounds) (rules : Rules) where
   }
 
   pub step_clause : (old new : Reading) (state state' : List Clause) (items : List OpenFile) (f : OpenFile) (end : ℕ) (clause : Clause) → old.files.items ≡ items ++ f ∷ []
-      → IsItemRead f.bytes.items f.at (clause_item clause) end → new.files.items ≡ items ++ record f { at = end } ∷ [] → new.fetches ≡ old.fetches
+      → IsItemRead f.bytes.items f.at (clause_item clause) end → new.files.items ≡ moved items f end → new.fetches ≡ old.fetches
       → TriesClause rules new.files.items clause state state' → AreWithin old.files.items → StepsOn told bounds rules old new state state'
   step_clause old new state state' items f end clause e r n m t w = record {
     underway = λ start file u. takes told bounds rules start file old new state state' items f end clause e r.begins n m t u;
@@ -60,7 +61,7 @@ module _ (told : Option Files) (bounds : Bounds) (rules : Rules) where
 
   pub step_refused : (old : Reading) (state : List Clause) (items : List OpenFile) (f : OpenFile) (end : ℕ) (clause : Clause) (made : ℕ) (x : HarvestFault) → old.files.items ≡ items ++ f ∷ []
       → IsItemRead f.bytes.items f.at (clause_item clause) end
-      → NamesWhy rules x (λ fault. (is_selected (items ++ record f { at = end } ∷ []) clause.name ≡ true) × IsRejected rules state clause fault) → made ≡ old.fetches
+      → NamesWhy rules x (λ fault. (is_selected (moved items f end) clause.name ≡ true) × IsRejected rules state clause fault) → made ≡ old.fetches
       → (start : List Clause) (file : Bytes) → IsUnderway told bounds rules start file old state
       → NamesWhy rules x (HasFault told bounds rules start file made) × HasFetched told bounds rules start file made
   step_refused old state items f end clause made x e r b same start file u = (
@@ -70,17 +71,17 @@ module _ (told : Option Files) (bounds : Bounds) (rules : Rules) where
 
   pub step_include : (old new : Reading) (state : List Clause) (items : List OpenFile) (f : OpenFile) (end : ℕ) (name : Bytes) (selection : Selection)
       → old.files.items ≡ items ++ f ∷ [] → IsItemRead f.bytes.items f.at (include_item name selection) end
-      → OpensInside told bounds name (Lists selection) (items ++ record f { at = end } ∷ []) old.fetches new
+      → OpensInside told bounds name (Lists selection) (moved items f end) old.fetches new
       → bounds.file ≤ MOST_OCCURRENCES → AreWithin old.files.items → StepsOn told bounds rules old new state state
   step_include old new state items f end name selection e r h b w = record {
     underway = λ start file u. enters told bounds rules start file old new state items f end name selection e r.begins h u;
-    within = within_entered told bounds name (Lists selection) (items ++ record f { at = end } ∷ []) old.fetches new b h (within_moved items f end (subst AreWithin e w) r.within);
+    within = within_entered told bounds name (Lists selection) (moved items f end) old.fetches new b h (within_moved items f end (subst AreWithin e w) r.within);
     falls = falls_entered told bounds name (Lists selection) old new items f (include_item name selection) end e r.begins h;
   }
 
   pub step_unopened : (old : Reading) (state : List Clause) (items : List OpenFile) (f : OpenFile) (end : ℕ) (name : Bytes) (selection : Selection) (made : ℕ) (x : HarvestFault)
       → old.files.items ≡ items ++ f ∷ [] → IsItemRead f.bytes.items f.at (include_item name selection) end
-      → NamesWhy rules x (IsUnopened told bounds name (items ++ record f { at = end } ∷ []) old.fetches made) → FetchesOnce bounds name (items ++ record f { at = end } ∷ []) old.fetches made
+      → NamesWhy rules x (IsUnopened told bounds name (moved items f end) old.fetches made) → FetchesOnce bounds name (moved items f end) old.fetches made
       → (start : List Clause) (file : Bytes) → IsUnderway told bounds rules start file old state
       → NamesWhy rules x (HasFault told bounds rules start file made) × HasFetched told bounds rules start file made
   step_unopened old state items f end name selection made x e r b once start file u = (

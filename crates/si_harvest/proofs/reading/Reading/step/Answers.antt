@@ -1,15 +1,12 @@
-use Rattle.std.proofs.Common.{ℕ, List, ◌++◌, ◌∷◌, [], refl, subst}
+use Rattle.std.proofs.Common.{refl, subst}
 use Rattle.si_term.specs.Meaning.{clause_of}
 use Rattle.si_parse.specs.Meaning.{selection_of}
-use Rattle.si_harvest.specs.declared.files.OpenFile.{OpenFile}
 use Rattle.si_harvest.specs.Faults.{NamesWhy, bounds_of}
 use Rattle.si_harvest.specs.Opened.{OpensInside, IsUnopened, FetchesOnce}
 use Rattle.si_harvest.specs.Underway.{Lists}
+use Rattle.si_harvest.proofs.Stands.{moved}
 use Rattle.si_harvest.proofs.Stepping.{read_as, steps_fault, step_end, step_clause, step_refused, step_include, step_unopened, step_foreign, step_malformed}
 use Rattle.si_harvest.proofs.reading.Reading.step.Goals as goal
-
-abbrev moved : List OpenFile → OpenFile → ℕ → List OpenFile
-moved items f end = items ++ record f { at = end } ∷ []
 
 pub returns-in-End-clause-stepped : goal.returns-in-End-clause-stepped
 returns-in-End-clause-stepped g c =

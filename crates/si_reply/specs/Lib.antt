@@ -1,2 +1,3 @@
 pub mod PrintedParts
 pub mod NamedLists
+pub mod ShownTexts

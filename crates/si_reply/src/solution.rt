@@ -1,16 +1,14 @@
 // Solution lists over numbered terms, written to a sink.
 ghost use Rattle.std.specs.Prelude.{◌≡◌, ◌<◌, Some, length, slice_get};
 ghost use Rattle.si_defs.specs.Bytes.{Bytes};
-ghost use Rattle.si_defs.specs.Terms as terms;
 ghost use Rattle.si_defs.specs.Symbols as symbols;
 ghost use Rattle.si_defs.specs.Printing.{symbol_text, term_text, more_texts, solution_text};
-ghost use Rattle.si_defs.specs.Variables as variables;
-ghost use Rattle.si_defs.specs.Variables.{Apart, variable_text};
-ghost use Rattle.si_io.specs.Sends.{Sends};
+ghost use Rattle.si_defs.specs.Variables.{variable_text};
 ghost use Rattle.si_term.specs.Terms.{symbol_of};
 ghost use Rattle.si_flat.specs.Cells.{IsWhole};
 ghost use Rattle.si_reply.specs.PrintedParts.{arguments_text, binding_text, bindings_text};
 ghost use Rattle.si_reply.specs.NamedLists.{ShowsTerm, ShowAll, ShowsVariable, ShowsSymbol, ShowsBinding, ShowsList};
+ghost use Rattle.si_reply.specs.ShownTexts.{StandForSome, SendsText};
 
 use crate::names::NameList;
 use crate::printing::{put_bytes, put_symbol};
@@ -47,10 +45,9 @@ pub fn put_solution<K: Sink, T: SymTable, N: NameList>(
     naming: &Naming<'_, T, N>,
     solution: &Solution,
 ) -> Result<(), Failed>
-    requires known { (list : variables.Solution) × ShowsList naming.now solution.now list }
-    ensures { (list : variables.Solution) → ShowsList naming.now solution.now list
-        → Sends result (solution_text variable_text list) (K.shown sink.old)
-        (K.shown sink.new) }
+    requires known { StandForSome (ShowsList naming.now solution.now) }
+    ensures { SendsText result (solution_text variable_text) (ShowsList naming.now solution.now)
+        (K.shown sink.old) (K.shown sink.new) }
 {
     put_bytes(sink, b"{")?;
     put_bindings(sink, naming, solution)?;
@@ -63,9 +60,9 @@ fn put_bindings<K: Sink, T: SymTable, N: NameList>(
     naming: &Naming<'_, T, N>,
     solution: &Solution,
 ) -> Result<(), Failed>
-    requires known { (list : variables.Solution) × ShowsList naming.now solution.now list }
-    ensures { (list : variables.Solution) → ShowsList naming.now solution.now list
-        → Sends result (bindings_text list) (K.shown sink.old) (K.shown sink.new) }
+    requires known { StandForSome (ShowsList naming.now solution.now) }
+    ensures { SendsText result bindings_text (ShowsList naming.now solution.now)
+        (K.shown sink.old) (K.shown sink.new) }
 {
     if solution.len() == 0 {
         return Ok(());
@@ -84,9 +81,9 @@ fn put_binding<K: Sink, T: SymTable, N: NameList>(
     naming: &Naming<'_, T, N>,
     binding: &Binding,
 ) -> Result<(), Failed>
-    requires known { (b : variables.Variable × Apart) × ShowsBinding naming.now binding.now b }
-    ensures { (b : variables.Variable × Apart) → ShowsBinding naming.now binding.now b
-        → Sends result (binding_text b) (K.shown sink.old) (K.shown sink.new) }
+    requires known { StandForSome (ShowsBinding naming.now binding.now) }
+    ensures { SendsText result binding_text (ShowsBinding naming.now binding.now)
+        (K.shown sink.old) (K.shown sink.new) }
 {
     put_variable(sink, naming, binding.owner, binding.slot)?;
     put_bytes(sink, b" -> ")?;
@@ -100,9 +97,9 @@ fn put_variable<K: Sink, T: SymTable, N: NameList>(
     owner: Owner,
     slot: u32,
 ) -> Result<(), Failed>
-    requires known { (x : variables.Variable) × ShowsVariable naming.now owner slot x }
-    ensures { (x : variables.Variable) → ShowsVariable naming.now owner slot x
-        → Sends result (variable_text x) (K.shown sink.old) (K.shown sink.new) }
+    requires known { StandForSome (ShowsVariable naming.now owner slot) }
+    ensures { SendsText result variable_text (ShowsVariable naming.now owner slot)
+        (K.shown sink.old) (K.shown sink.new) }
 {
     match owner {
         Owner::Query => {
@@ -115,7 +112,7 @@ fn put_variable<K: Sink, T: SymTable, N: NameList>(
 
 /// The symbol with this number.
 fn symbol_at<'a, T: SymTable, N: NameList>(naming: &Naming<'a, T, N>, number: u32) -> &'a Sym
-    requires known { (s : symbols.Symbol) × ShowsSymbol naming.now number s }
+    requires known { StandForSome (ShowsSymbol naming.now number) }
     ensures { (s : symbols.Symbol) → ShowsSymbol naming.now number s
         → symbol_of result.now ≡ s }
 {
@@ -132,9 +129,9 @@ fn put_flat<K: Sink, T: SymTable, N: NameList>(
     naming: &Naming<'_, T, N>,
     cells: &[Cell],
 ) -> Result<(), Failed>
-    requires known { (t : Apart) × ShowsTerm naming.now cells.now t }
-    ensures { (t : Apart) → ShowsTerm naming.now cells.now t
-        → Sends result (term_text variable_text t) (K.shown sink.old) (K.shown sink.new) }
+    requires known { StandForSome (ShowsTerm naming.now cells.now) }
+    ensures { SendsText result (term_text variable_text) (ShowsTerm naming.now cells.now)
+        (K.shown sink.old) (K.shown sink.new) }
 {
     match cells[0] {
         Cell::App { sym, .. } => {
@@ -154,12 +151,9 @@ fn put_flat_arguments<K: Sink, T: SymTable, N: NameList>(
     naming: &Naming<'_, T, N>,
     cells: &[Cell],
 ) -> Result<(), Failed>
-    requires known { (ts : terms.Terms symbols.Symbol variables.Variable)
-        × ShowAll naming.now cells.now ts }
-    ensures { (ts : terms.Terms symbols.Symbol variables.Variable)
-        → ShowAll naming.now cells.now ts
-        → Sends result (arguments_text variable_text ts) (K.shown sink.old)
-        (K.shown sink.new) }
+    requires known { StandForSome (ShowAll naming.now cells.now) }
+    ensures { SendsText result (arguments_text variable_text) (ShowAll naming.now cells.now)
+        (K.shown sink.old) (K.shown sink.new) }
 {
     if cells.is_empty() {
         return Ok(());
@@ -178,11 +172,9 @@ fn put_flat_others<'a, K: Sink, T: SymTable, N: NameList>(
     naming: &Naming<'_, T, N>,
     cells: &'a [Cell],
 ) -> Result<(), Failed>
-    requires known { (ts : terms.Terms symbols.Symbol variables.Variable)
-        × ShowAll naming.now cells.now ts }
-    ensures { (ts : terms.Terms symbols.Symbol variables.Variable)
-        → ShowAll naming.now cells.now ts
-        → Sends result (more_texts variable_text ts) (K.shown sink.old) (K.shown sink.new) }
+    requires known { StandForSome (ShowAll naming.now cells.now) }
+    ensures { SendsText result (more_texts variable_text) (ShowAll naming.now cells.now)
+        (K.shown sink.old) (K.shown sink.new) }
 {
     let mut rest = cells;
     while !rest.is_empty() {

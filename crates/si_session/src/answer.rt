@@ -1,11 +1,10 @@
 // The answer to a query: a line for each hit.
 ghost use Rattle.std.specs.Prelude.{◌≡◌, ◌<◌, ◌^◌, length};
 ghost use Rattle.std.specs.List.{AllByRecursion};
-ghost use Rattle.si_defs.specs.Variables as variables;
-ghost use Rattle.si_io.specs.Sends.{Sends};
 ghost use Rattle.si_term.specs.Meaning.{name_of, place_of};
 ghost use Rattle.si_index.specs.Searching.{HasSolution};
 ghost use Rattle.si_reply.specs.NamedLists.{ShowsList};
+ghost use Rattle.si_reply.specs.ShownTexts.{StandForSome, SendsText};
 ghost use Rattle.si_session.specs.Answering.{IsInside, ReportsAnswer, hit_line};
 
 use crate::reply::put_end;
@@ -25,10 +24,9 @@ fn put_hit<'a, K: Sink>(
     naming: &Naming<'a, Signature, &'a [&'a [u8]]>,
     solution: &Solution,
 ) -> Result<(), Failed>
-    requires known { (list : variables.Solution) × ShowsList naming.now solution.now list }
-    ensures { (list : variables.Solution) → ShowsList naming.now solution.now list
-        → Sends result (hit_line (name_of name.now) (place_of place.now) list)
-        (K.shown sink.old) (K.shown sink.new) }
+    requires known { StandForSome (ShowsList naming.now solution.now) }
+    ensures { SendsText result (hit_line (name_of name.now) (place_of place.now))
+        (ShowsList naming.now solution.now) (K.shown sink.old) (K.shown sink.new) }
 {
     put_place(sink, name, place)?;
     put_separator(sink, Separator::Space)?;

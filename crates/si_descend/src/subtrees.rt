@@ -19,7 +19,8 @@ use std::alloc::AllocError;
 
 /// Whether all nodes below an open node are known to be open: it is a leaf, or instances or
 /// unifiable terms are sought, and all open indicators stand for different variables of which
-/// nothing else is told. Where that isn't known, the node has children, and no postings of its own.
+/// nothing else is known. Where it can't be said, the node has children, and no postings of its
+/// own.
 #[inline(always)]
 pub(crate) fn is_open_below<'a>(
     search: &Search<'a>,

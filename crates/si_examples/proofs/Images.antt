@@ -10,7 +10,7 @@ use Rattle.si_state.specs.Subsumption.{item_at, TakesTo, IsMap, IsNoLater}
 use Rattle.si_steps.specs.Replies.{mapped_reply}
 use Rattle.si_examples.specs.Entries.{a}
 use Rattle.si_examples.specs.Relations.{x, y}
-use Rattle.si_examples.specs.Subsumption.{atom_of, b, linked, three, two, negative, TwoToOne, SkippedLiteral, NoCommonImage, NoOtherSign, NoSubsumedTold}
+use Rattle.si_examples.specs.Subsumption.{atom_of, b, linked, three, two, negative, TwoToOne, SkippedLiteral, NoCommonImage, NoOtherSign, NoSubsumedReported}
 use Rattle.si_examples.proofs.Differ.{first_byte, texts_differ}
 
 -- the text at the head of a term, and its first argument
@@ -150,6 +150,6 @@ no_other_sign h = none h.0 h.1
 more_lines : (line next last : Bytes) → line ∷ next ∷ [] ≡ last ∷ [] → ⊥
 more_lines line next last e = cc
 
-pub no_subsumed_told : NoSubsumedTold
-no_subsumed_told setting line new (found, inl h, said, stays) = no_other_sign (h.0, h.2.is_one)
-no_subsumed_told setting line new (found, inr h, said, stays) = more_lines line _ _ (said ∙ ap mapped_reply h.1)
+pub no_subsumed_reported : NoSubsumedReported
+no_subsumed_reported setting line new (found, inl h, said, stays) = no_other_sign (h.0, h.2.is_one)
+no_subsumed_reported setting line new (found, inr h, said, stays) = more_lines line _ _ (said ∙ ap mapped_reply h.1)

@@ -14,7 +14,7 @@ use Rattle.si_examples.specs.Entries.{f_of_x, a}
 use Rattle.si_steps.specs.Replies.{explain_line}
 use Rattle.si_steps.specs.Steps.{CountsStanding}
 use Rattle.si_examples.proofs.Differ.{differ}
-use Rattle.si_examples.specs.Answers.{state, pattern, hit, OneHit, NoAnswerUntold, NoHitLeftOut, NoHitTwice, NoGeneralization}
+use Rattle.si_examples.specs.Answers.{state, pattern, hit, OneHit, NoAnswerUnreported, NoHitLeftOut, NoHitTwice, NoGeneralization}
 
 -- Has the term arguments?
 abbrev has_arguments : Apart → Bool
@@ -53,8 +53,8 @@ one_alone n (inr k) = elim k.1 [
   | inr m ↦ absurd (m.0 f_stands)
 ]
 
-pub no_answer_untold : NoAnswerUntold
-no_answer_untold setting new (passed, nodes, answers, counts, said, stays) =
+pub no_answer_unreported : NoAnswerUnreported
+no_answer_unreported setting new (passed, nodes, answers, counts, said, stays) =
     let line = same_first (said ∙ ap (λ n. explain_line passed nodes n ∷ []) (one_alone answers counts)) in
     let front = codes "passed " ++ decimal passed ++ codes " nodes " ++ decimal nodes ++ codes " answers " in
     differ 48 49 refl (same_from_push (codes "passed 2 nodes 3 answers ") front 48 49 (line ∙ ap (λ ds. front ++ ds) (decimal_digit 1 (omega arith)))).1

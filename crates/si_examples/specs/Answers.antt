@@ -46,8 +46,8 @@ ExplainedPattern = (setting : Setting)
     (codes "passed 2 nodes 3 answers 1" ∷ []) state
 
 -- that there is none is wrong, whatever the state after it
-abbrev pub NoAnswerUntold : Type 0
-NoAnswerUntold = (setting : Setting) (new : State)
+abbrev pub NoAnswerUnreported : Type 0
+NoAnswerUnreported = (setting : Setting) (new : State)
     → Performs setting (explain Instances pattern) state
     (codes "passed 2 nodes 3 answers 0" ∷ []) new → ⊥
 

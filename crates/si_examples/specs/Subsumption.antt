@@ -67,13 +67,13 @@ abbrev pub pair : Clause
 pair = clause_with (codes "s") (atom_of (codes "p") x ∷ atom_of (codes "p") y ∷ [])
 
 -- `subsumers p(a)` names it, with its map
-abbrev pub ToldSubsumer : Type 0
-ToldSubsumer = (setting : Setting)
+abbrev pub ReportedSubsumer : Type 0
+ReportedSubsumer = (setting : Setting)
     → Performs setting (subsumers (atom_of (codes "p") a ∷ [])) (keeping (pair ∷ []))
     (codes "s [1,1]" ∷ codes "end 1" ∷ []) (keeping (pair ∷ []))
 
 -- The clause n: ~p(a) is not named at `subsumed p(X)`.
-abbrev pub NoSubsumedTold : Type 0
-NoSubsumedTold = (setting : Setting) (line : Bytes) (new : State)
+abbrev pub NoSubsumedReported : Type 0
+NoSubsumedReported = (setting : Setting) (line : Bytes) (new : State)
     → Performs setting (subsumed (atom_of (codes "p") x ∷ []))
     (keeping (clause_with (codes "n") negative ∷ [])) (line ∷ codes "end 1" ∷ []) new → ⊥

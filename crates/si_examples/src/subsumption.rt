@@ -1,5 +1,5 @@
 // Which clauses subsume others.
-ghost use Rattle.si_examples.specs.Subsumption.{TwoToOne, SkippedLiteral, NoCommonImage, NoOtherSign, ToldSubsumer, NoSubsumedTold};
+ghost use Rattle.si_examples.specs.Subsumption.{TwoToOne, SkippedLiteral, NoCommonImage, NoOtherSign, ReportedSubsumer, NoSubsumedReported};
 
 /// Which clauses subsume which, and by which least map.
 pub fn subsumed_clauses()
@@ -7,6 +7,6 @@ pub fn subsumed_clauses()
     ensures skipped_literal { SkippedLiteral }
     ensures no_common_image { NoCommonImage }
     ensures no_other_sign { NoOtherSign }
-    ensures told_subsumer { ToldSubsumer }
-    ensures no_subsumed_told { NoSubsumedTold }
+    ensures reported_subsumer { ReportedSubsumer }
+    ensures no_subsumed_reported { NoSubsumedReported }
 {}

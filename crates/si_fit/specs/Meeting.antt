@@ -1,4 +1,4 @@
--- What is told of two terms that are to be made equal, where no search is made.
+-- What is known of two terms that are to be made equal, where no search is made.
 use Rattle.std.specs.Prelude.{◌≡◌, ℕ, ◌↔◌, Bool, true, false, List, [], ◌∷◌}
 use Rattle.si_defs.specs.Terms as terms
 use Rattle.si_flat.specs.declared.Cell.{Cell}

@@ -176,10 +176,10 @@ shows_kept below kept = record {
 }
 
 -- it was broken off before
-pub told_part : {T E : Type 0} (r : Result T E) (start now : SinkShown) (kept text : List ℕ) → IsTrue (is_err r) → HasBytesSince start.told now.told → HasRoomSince start.told now.told
+pub written_part : {T E : Type 0} (r : Result T E) (start now : SinkShown) (kept text : List ℕ) → IsTrue (is_err r) → HasBytesSince start.told now.told → HasRoomSince start.told now.told
     → WritesFew start.counts now.counts → Sends r text (begun start) (shows_kept now kept) → Sends r (text ++ 10 ∷ []) start now
-told_part (Ok x) start now kept text h bytes room few sent = absurd cc
-told_part (Err e) start now kept text h bytes room few sent =
+written_part (Ok x) start now kept text h bytes room few sent = absurd cc
+written_part (Err e) start now kept text h bytes room few sent =
     let part = sent.part.told in
     record {
       all = tt;
@@ -191,11 +191,11 @@ told_part (Err e) start now kept text h bytes room few sent =
       };
     }
 
--- all was told, and what was held and the last line feed were handed on, or some of it
-pub told_all : {T F E : Type 0} (r : Result T F) (h : Result (Unit {0}) E) (start now after : SinkShown) (kept text : List ℕ) → IsFalse (is_err r) → HasBytesSince start.told now.told
+-- all was written, and what was held and the last line feed were handed on, or some of it
+pub written_all : {T F E : Type 0} (r : Result T F) (h : Result (Unit {0}) E) (start now after : SinkShown) (kept text : List ℕ) → IsFalse (is_err r) → HasBytesSince start.told now.told
     → HasRoomSince start.told now.told → WritesFew start.counts now.counts → Sends r text (begun start) (shows_kept now kept) → Sends h (kept ++ 10 ∷ []) now after → Sends h (text ++ 10 ∷ []) start after
-told_all (Err e) h start now after kept text fine bytes room few sent handed = absurd cc
-told_all (Ok x) (Ok y) start now after kept text fine bytes room few sent handed = record {
+written_all (Err e) h start now after kept text fine bytes room few sent handed = absurd cc
+written_all (Ok x) (Ok y) start now after kept text fine bytes room few sent handed = record {
   all = record {
     told = handed.all.told ∙ behind now.told start.told kept text sent.all.told;
     bytes = omega (arith, handed.all.bytes, sent.all.bytes, length-append kept (10 ∷ []), length-append text (10 ∷ []));
@@ -204,7 +204,7 @@ told_all (Ok x) (Ok y) start now after kept text fine bytes room few sent handed
   };
   part = tt;
 }
-told_all (Ok x) (Err e) start now after kept text fine bytes room few sent handed =
+written_all (Ok x) (Err e) start now after kept text fine bytes room few sent handed =
     let part = handed.part.told in
     let since_it = told_apart start.told after.told (since_more start.told now.told after.told _ bytes room part.given) in
     let all = kept ++ 10 ∷ [] in

@@ -268,13 +268,13 @@ impl<S: Borrowed, B: Origin> Buffered<S, B> {
         self.hold(bytes);
     }
 
-    /// Ends a reply of which all was told but its last line feed: hands on what is held, and that.
+    /// Ends a reply whose last line feed alone isn't written yet: hands on what is held, and that.
     /// After a failure the sink is given back without another call.
-    pub fn finish(self, told: Result<(), Failed>) -> (Result<(), Failed>, S)
-        ensures told { (text : List ℕ) → Sends told text (begun B.shown)
+    pub fn finish(self, written: Result<(), Failed>) -> (Result<(), Failed>, S)
+        ensures written { (text : List ℕ) → Sends written text (begun B.shown)
             (gathered (S.shown self.sink) self.bytes self.start self.end)
             → Sends result.0 (text ++ 10 ∷ []) B.shown (S.shown result.1) }
-        ensures uncalled { OnErr told (result.1 ≡ self.sink) }
+        ensures uncalled { OnErr written (result.1 ≡ self.sink) }
         ensures same { S.name result.1 ≡ B.name }
     {
         let Buffered {
@@ -284,8 +284,8 @@ impl<S: Borrowed, B: Origin> Buffered<S, B> {
             end,
             ..
         } = self;
-        if told.is_err() {
-            return (told, sink);
+        if written.is_err() {
+            return (written, sink);
         }
         bytes[end] = LINE_FEED;
         let handed_on = hand_on(&mut sink, &bytes[..end + 1], &mut start);

@@ -65,8 +65,8 @@ fn put_over<A: Lines, S: Borrowed, B: Origin>(lines: &A, sink: S) -> (Result<(),
     ensures same { S.name result.1 ≡ S.name sink }
 {
     let mut buffered = Buffered::<S, B>::over(sink);
-    let told = put_all(lines, &mut buffered);
-    buffered.finish(told)
+    let written = put_all(lines, &mut buffered);
+    buffered.finish(written)
 }
 
 /// Writes the lines, each with its line feed, in large pieces. This takes no memory.
@@ -75,6 +75,6 @@ pub fn write_lines<A: Lines, K: Sink>(lines: &A, sink: &mut K) -> Result<(), Fai
     ensures { WritesLines (A.line lines.now) (A.count lines.now) (A.last lines.now ++ 10 ∷ [])
         result (K.shown sink.old) (K.shown sink.new) }
 {
-    let (told, _) = put_over::<A, &mut K, Brand>(lines, sink);
-    told
+    let (written, _) = put_over::<A, &mut K, Brand>(lines, sink);
+    written
 }

@@ -303,8 +303,8 @@ fn lead(key: usize, place: usize, places: &mut Slab<usize>)
     ensures updates { Updates places.old places.new key (Some place) }
     ensures number { slab_len places.new ≡ slab_len places.old }
 {
-    if let Some(told) = places.get_mut(key) {
-        *told = place;
+    if let Some(noted) = places.get_mut(key) {
+        *noted = place;
     }
 }
 

@@ -60,8 +60,8 @@ abbrev pub AreAlikeTo : Bytes → Reply → Reply → Type 0
 AreAlikeTo line reply other =
     (reply ≡ other) ⊎ ((command : Command) × Means command line × AreAlike command reply other)
 
--- two right steps over the line are the same, with replies that are alike, where none tells a
--- failure
+-- two right steps over the line are the same, with replies that are alike, where none reports
+-- a failure
 abbrev pub OneRightStep : Setting → Files → State → Bytes → Type 0
 OneRightStep setting files state line =
     (reply other : Reply) (owed due : Owed) (new behind : State)

@@ -1,4 +1,4 @@
--- What solving two terms told.
+-- What solving two terms answered.
 use Rattle.std.specs.Prelude.{◌≡◌, ℕ, ◌+◌, true, false, List, [], length, Option, Some, None}
 use Rattle.si_flat.specs.declared.Cell.{Cell}
 use Rattle.si_flat.specs.Cells.{IsWhole}

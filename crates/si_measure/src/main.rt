@@ -1,7 +1,7 @@
 //! Measurements of the solver by itself, without index, reader and printing of terms.
 //!
 //! Each line of the input is a measurement such as `shifted 64 100`: two terms of a shape and of a
-//! size, which are solved so many times. The answer tells their cells and the bindings that solve
+//! size, which are solved so many times. The answer reports their cells and the bindings that solve
 //! them. Times are taken from outside.
 #![tactic(auto)]
 

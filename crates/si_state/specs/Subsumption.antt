@@ -1,5 +1,5 @@
 -- Subsumption of clauses by sets of literals (Robinson 1965): two literals may have one image. That
--- the least map is told is this project's profile.
+-- the least map is reported is this project's profile.
 use Rattle.std.specs.Prelude.{◌≡◌, ◌⊎◌, ℕ, zero, suc, ◌<◌, List, [], ◌∷◌, ◌++◌, map, slice_get, Option, None, Some, codes}
 use Rattle.si_defs.specs.Bytes.{Bytes}
 use Rattle.si_defs.specs.Clauses.{Literal, Clause}

@@ -11,7 +11,7 @@ use std::alloc::{AllocError, Global};
 use std::process::Abort;
 use std::test::Fail;
 
-/// What a load answers, but for the name that it tells.
+/// What a load answers, but for the name that it reports.
 #[derive(Clone, Copy, Debug, PartialEq, Eq)]
 pub(crate) enum Answer {
     /// So many clauses and entries.
@@ -82,7 +82,7 @@ impl Bound {
 pub(crate) type Files = &'static [(&'static [u8], &'static [u8])];
 
 /// A load of the file `m` into a store that has the clause `k`: the files, the small bound, the
-/// answer, the name that it tells, and the names of the clauses that are kept afterwards.
+/// answer, the name that it reports, and the names of the clauses that are kept afterwards.
 type Row = (
     Files,
     Bound,
@@ -525,8 +525,8 @@ const LIMITS: [Row; 15] = [
 
 const KEPT: Files = &[(b"k", b"cnf(k,axiom,r).")];
 
-/// What the load answered, and the name that it told.
-pub(crate) fn told(answer: &Result<Loaded, HarvestFault>) -> (Answer, &[u8]) {
+/// What the load answered, and the name that it reported.
+pub(crate) fn reported(answer: &Result<Loaded, HarvestFault>) -> (Answer, &[u8]) {
     match answer {
         Ok(loaded) => (Answer::Gained(loaded.clauses, loaded.entries), &[]),
         Err(HarvestFault::Syntax { file, line }) => (Answer::Syntax(*line), file.as_bytes()),
@@ -619,11 +619,11 @@ fn assert_kept(rt: &impl Abort, alloc: Global, store: &mut PlainStore) -> Result
 
 fn assert_answer(rt: &impl Abort, loaded: &Result<Loaded, HarvestFault>, row: &Row) {
     let (files, _, answer, named, _) = *row;
-    assert_eq!(rt; told(loaded), (answer, named), "at {files:?}");
+    assert_eq!(rt; reported(loaded), (answer, named), "at {files:?}");
 }
 
 /// Loads the file `m`, and looks at the answer and the name.
-fn assert_told(
+fn assert_reported(
     rt: &impl Abort,
     alloc: Global,
     row: &Row,
@@ -645,7 +645,7 @@ fn assert_loads(
     requires { store.old.0.entries ≤ MOST_OCCURRENCES }
 {
     assert_kept(rt, alloc, store)?;
-    assert_told(rt, alloc, row, store)?;
+    assert_reported(rt, alloc, row, store)?;
     let (files, kept) = (row.0, row.4);
     assert!(rt; has_only(alloc, store, kept)?, "at {files:?}");
     Ok(())
@@ -674,7 +674,7 @@ fn files_are_loaded(rt: HostRuntime) -> Result<(), Fail> {
 }
 
 #[test]
-fn the_first_fault_is_told(rt: HostRuntime) -> Result<(), Fail> {
+fn the_first_fault_is_reported(rt: HostRuntime) -> Result<(), Fail> {
     assert_rows(&rt, rt.alloc(), &FAULTS)?;
     Ok(())
 }

@@ -2,7 +2,7 @@
 ghost use Rattle.std.specs.Prelude.{◌<◌, ◌≤◌, IfOk};
 ghost use Rattle.si_defs.specs.declared.TheConstants.{MOST_OCCURRENCES};
 
-use crate::loads::{Answer, has_only, library_of, told};
+use crate::loads::{Answer, has_only, library_of, reported};
 use si_harvest::{HarvestLimits, expand, take_text};
 use si_sign::ShortStore;
 use std::alloc::{AllocError, Global};
@@ -64,7 +64,7 @@ fn load(alloc: Global, store: &mut ShortStore) -> Result<Answer, AllocError>
 {
     let mut library = library_of(alloc, FILES, 0)?;
     let loaded = expand(alloc, &mut library, b"main.p", &LIMITS, store);
-    Ok(told(&loaded).0)
+    Ok(reported(&loaded).0)
 }
 
 /// What the text of two clauses that are drawn answers.
@@ -73,7 +73,7 @@ fn take(alloc: Global, store: &mut ShortStore) -> Result<Answer, AllocError>
 {
     let text = si_sample::sample(alloc, 1, 2)?;
     let taken = take_text(alloc, text.as_slice(), store);
-    Ok(told(&taken).0)
+    Ok(reported(&taken).0)
 }
 
 fn assert_loads(

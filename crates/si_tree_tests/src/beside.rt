@@ -24,7 +24,7 @@ const RELATIONS: [Relation; 4] = [
 
 /// Of each hit the position of its clause, the number of its literal and its path, and a 0, which
 /// stands in no path.
-fn told(alloc: Global, found: &Found) -> Result<Vec<u32>, AllocError> {
+fn listed(alloc: Global, found: &Found) -> Result<Vec<u32>, AllocError> {
     let mut page = Vec::new(alloc);
     for n in 0..found.len() {
         let hit = found.hit(n);
@@ -49,7 +49,7 @@ fn answered<E: Engine>(
         (pattern_of pattern.now) }
 {
     let found = index.find(&mut SearchMemory::new(alloc), engine, relation, pattern)?;
-    told(alloc, &found)
+    listed(alloc, &found)
 }
 
 /// Both answer the same in each relation.

@@ -1,4 +1,4 @@
--- What was told over the sink that gathers bytes, once the last line was ended.
+-- What was written over the sink that gathers bytes, once the last line was ended.
 use Rattle.std.proofs.Common.{◌≡◌, ◌∷◌, [], ◌++◌, ap, sym, subst, ◌∙◌, append_assoc}
 use Rattle.std.specs.List.{concat}
 use Rattle.si_io.specs.Sends.{Sends}
@@ -14,11 +14,11 @@ returns-clause-written g c =
     let last = c.finish.result in
     let empty : gathered (shown over.sink) over.bytes over.start over.end ≡ begun start =
     nothing_held (shown over.sink) over.bytes over.start over.end c.over-buffered.ensures.none ∙ ap (λ k. begun (shown k)) c.over-buffered.ensures.sink in
-    let told = c.put_all-told.ensures in
+    let written = c.put_all-written.ensures in
     let end = g.A.Lines.last c.args.lines.now in
-    let text = concat told.0 ++ end in
-    let over_now = c.put_all-told.new.sink in
+    let text = concat written.0 ++ end in
+    let over_now = c.put_all-written.new.sink in
     let now = gathered (shown over_now.sink) over_now.bytes over_now.start over_now.end in
-    let front = subst (λ t. Sends c.put_all-told.result text t now) (empty ∙ ap begun c.requires.start) told.2 in
-    let whole = subst (λ t. Sends last.0 (text ++ 10 ∷ []) t (shown last.1)) (sym c.requires.start) (c.finish.ensures.told text front) in
-    (told.0, told.1, subst (λ t. Sends last.0 t start (shown last.1)) (append_assoc (concat told.0) end (10 ∷ [])) whole)
+    let front = subst (λ t. Sends c.put_all-written.result text t now) (empty ∙ ap begun c.requires.start) written.2 in
+    let whole = subst (λ t. Sends last.0 (text ++ 10 ∷ []) t (shown last.1)) (sym c.requires.start) (c.finish.ensures.written text front) in
+    (written.0, written.1, subst (λ t. Sends last.0 t start (shown last.1)) (append_assoc (concat written.0) end (10 ∷ [])) whole)

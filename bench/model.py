@@ -677,8 +677,8 @@ class Load:
                 item, place = next_item(text, place)
             except Fault as fault:
                 line = 1 + text.count(b"\n", 0, fault.place)
-                told = (fault.word, quoted(file, b"'"), line)
-                raise Refusal(b"! %s %s %d" % told) from None
+                reported = (fault.word, quoted(file, b"'"), line)
+                raise Refusal(b"! %s %s %d" % reported) from None
             if item is None:
                 return
             if isinstance(item, Include):

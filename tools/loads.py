@@ -18,11 +18,11 @@ class Place(NamedTuple):
     place: int
     included: tuple["Place", ...]
 
-    def line(self, told: str) -> str:
-        return f"{self.file}:{tptp.line_of(self.text, self.place)}:{tptp.column_of(self.text, self.place)}: {told}"
+    def line(self, reported: str) -> str:
+        return f"{self.file}:{tptp.line_of(self.text, self.place)}:{tptp.column_of(self.text, self.place)}: {reported}"
 
-    def lines(self, told: str) -> list[str]:
-        return [self.line(told), *(place.line("included from here") for place in self.included)]
+    def lines(self, reported: str) -> list[str]:
+        return [self.line(reported), *(place.line("included from here") for place in self.included)]
 
 
 class Met(NamedTuple):
@@ -104,25 +104,26 @@ class Load:
 
 
 def unread(begin: Place, number: int, fault: int) -> Refusal:
-    """What is told of a text that goes on with no item."""
+    """What is reported of a text that goes on with no item."""
     foreign = tptp.Reader(begin.text, begin.place).is_foreign()
     word = "language" if foreign else "syntax"
     reply = f"! {word} {tptp.quoted(begin.file)} {tptp.line_of(begin.text, begin.place)}"
     token = tptp.Reader(begin.text, fault).token
     quote = QUOTE.match(begin.text, fault)
     if foreign:
-        told = f"a formula of {token}, which isn't CNF"
+        reported = f"a formula of {token}, which isn't CNF"
     elif begin.text.startswith("/*", fault):
-        told = "a comment that isn't closed"
+        reported = "a comment that isn't closed"
     elif fault == len(begin.text):
-        told = "the file ends within an item"
+        reported = "the file ends within an item"
     elif quote and not token:
-        told = f"no item goes on with a quoted text that breaks off in column {tptp.column_of(begin.text, quote.end())}"
+        column = tptp.column_of(begin.text, quote.end())
+        reported = f"no item goes on with a quoted text that breaks off in column {column}"
     elif tptp.number_at(begin.text, begin.place, fault):
-        told = f"no item goes on with {token}, and rational and real numbers aren't read"
+        reported = f"no item goes on with {token}, and rational and real numbers aren't read"
     else:
-        told = f"no item goes on with {token or ascii(begin.text[fault])}"
+        reported = f"no item goes on with {token or ascii(begin.text[fault])}"
     here = begin._replace(place=fault)
     if fault == begin.place:
-        return Refusal(reply, here.lines(told))
-    return Refusal(reply, [here.line(told), *begin.lines(f"item {number} of the file begins here")])
+        return Refusal(reply, here.lines(reported))
+    return Refusal(reply, [here.line(reported), *begin.lines(f"item {number} of the file begins here")])

@@ -37,20 +37,20 @@ class Tools(unittest.TestCase):
         return self.run_words([PROGRAM, *words], given)[1]
 
     def assert_usage(self, name, *calls):
-        status, told, _ = self.tool(name, "--help")
+        status, reported, _ = self.tool(name, "--help")
         self.assertEqual(status, 0)
-        self.assertIn(f"usage: {name} ", told)
+        self.assertIn(f"usage: {name} ", reported)
         for words in calls:
-            status, told, said = self.tool(name, *words)
-            self.assertEqual((status, told), (2, ""))
+            status, reported, said = self.tool(name, *words)
+            self.assertEqual((status, reported), (2, ""))
             self.assertTrue(said)
 
 
 class FromProver(Tools):
     def assert_made(self, sample, load, said, *words):
-        status, made, told = self.tool("from-prover", *words, SAMPLES / f"{sample}.out")
+        status, made, reported = self.tool("from-prover", *words, SAMPLES / f"{sample}.out")
         self.assertEqual((status, made), (0, (SAMPLES / f"{sample}.p").read_text()))
-        self.assertEqual(told, "".join(f"from-prover: {line}\n" for line in said))
+        self.assertEqual(reported, "".join(f"from-prover: {line}\n" for line in said))
         self.write(made=made, roads="cnf(r1,axiom,edge(home,a)).\n")
         self.assertEqual(self.program("made.p"), load)
 
@@ -100,9 +100,9 @@ class FromProver(Tools):
                          "from-prover: left out: clauses with rational or real numbers: 3\n"))
         self.write(made=made)
         self.assertEqual(self.program("made.p"), "ok 2 8\n")
-        status, made, told = self.tool("from-prover", given=given)
+        status, made, reported = self.tool("from-prover", given=given)
         self.assertEqual((status, made), (1, ""))
-        self.assertEqual([line.split(" a ")[0] for line in told.splitlines()[:3]],
+        self.assertEqual([line.split(" a ")[0] for line in reported.splitlines()[:3]],
                          [f"from-prover: -:{place}:" for place in ("2:14", "3:13", "5:5")])
 
     def test_odd_items(self):
@@ -111,9 +111,9 @@ class FromProver(Tools):
         self.assertEqual(self.made(""), "")
         self.assertEqual(self.made("fof(a,axiom,\n %% (\n p & 'f)' = 1.5). % (\nnothing\ncnf(a,x,p)."), "cnf(a, x, p).\n")
         given = "cnf(a,x,p).\ncnf(b,x,\n (p)|q).\ncnf(c,x,p q).\ncnf(d,x,r)."
-        status, made, told = self.tool("from-prover", given=given)
+        status, made, reported = self.tool("from-prover", given=given)
         self.assertEqual((status, made), (1, ""))
-        self.assertEqual(told.splitlines()[:2], [
+        self.assertEqual(reported.splitlines()[:2], [
             "from-prover: -:3:5: the clause that begins on line 2 isn't read from | on",
             "from-prover: -:4:11: the clause that begins on line 4 isn't read from q on"])
 
@@ -123,9 +123,9 @@ class FromProver(Tools):
 
 class Where(Tools):
     def assert_found(self, files, *lines):
-        status, told, _ = self.tool("where", *files)
-        self.assertEqual((told, status), ("".join(line + "\n" for line in lines), 1))
-        self.assertEqual(told.splitlines()[len(files) - 1], f"{files[-1]}: " + self.program(*files).splitlines()[-1])
+        status, reported, _ = self.tool("where", *files)
+        self.assertEqual((reported, status), ("".join(line + "\n" for line in lines), 1))
+        self.assertEqual(reported.splitlines()[len(files) - 1], f"{files[-1]}: " + self.program(*files).splitlines()[-1])
 
     def test_use(self):
         self.write(a="cnf(a1,axiom,p(f(X),a)).\n", c="cnf(c1,axiom,s('B')|'B').\n",
@@ -183,8 +183,8 @@ class Where(Tools):
         self.assert_found(["none.p"], "none.p: ! missing 'none.p'")
         for number in range(1, 33):
             self.write(**{f"f{number}": f"include('f{number + 1}.p')."})
-        status, told, _ = self.tool("where", "f1.p")
-        self.assertEqual((status, told.splitlines()[:2]),
+        status, reported, _ = self.tool("where", "f1.p")
+        self.assertEqual((status, reported.splitlines()[:2]),
                          (1, ["f1.p: ! depth 'f33.p'", "f32.p:1:1: this include asks for the file"]))
 
     def test_long_clauses(self):

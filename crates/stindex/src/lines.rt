@@ -47,7 +47,7 @@ impl Pending {
         let room = self.limit + 1 - self.buffer.len();
         let count = room.min(bytes.len());
         // The memory was taken when the buffer was made, so this can't be refused.
-        let _ = self.buffer.extend_from_slice(&bytes[..count]);
+        self.buffer.extend_from_slice(&bytes[..count]).unwrap();
     }
 
     /// The line is over.

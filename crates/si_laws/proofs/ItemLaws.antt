@@ -8,7 +8,7 @@ use Rattle.si_defs.specs.Tokens.{Token, mark, Begins}
 use Rattle.si_defs.specs.Grammar.{AreMoreNames, Selection, all, only, IsSelection, Item, clause_item, include_item, IsItem, comma, right_bracket, full_stop}
 use Rattle.si_defs.specs.Texts.{BeginsWithItem}
 use Rattle.si_defs.proofs.ListLaws.{same_first, same_tail}
-use Rattle.si_lex.specs.FullStops.{EndsAtStop}
+use Rattle.si_lex.specs.FullStops.{EndsAtFullStop}
 use Rattle.si_lex.proofs.TokenLaws.{begins_prefix, begins_unique}
 use Rattle.si_parse.proofs.GrammarStops.{item_stops, ends_all}
 use Rattle.si_laws.proofs.GrammarLaws.{name_one, clause_one}
@@ -56,9 +56,9 @@ item_one (include_item file s) (include_item name r) ts us e (names, selection, 
     λ i. include_item (same i) (selects i)
 
 -- ---- bytes
-same_tokens : (ts us : List Token) → EndsAtStop 0 ts → EndsAtStop 0 us → ((more : List Token) × (ts ≡ us ++ more)) ⊎ ((more : List Token) × (us ≡ ts ++ more)) → ts ≡ us
-same_tokens ts us h k (inl (more, e)) = e ∙ ap (λ x. us ++ x) (ends_all 0 us more k (subst (EndsAtStop 0) e h)) ∙ append-nil us
-same_tokens ts us h k (inr (more, e)) = sym (e ∙ ap (λ x. ts ++ x) (ends_all 0 ts more h (subst (EndsAtStop 0) e k)) ∙ append-nil ts)
+same_tokens : (ts us : List Token) → EndsAtFullStop 0 ts → EndsAtFullStop 0 us → ((more : List Token) × (ts ≡ us ++ more)) ⊎ ((more : List Token) × (us ≡ ts ++ more)) → ts ≡ us
+same_tokens ts us h k (inl (more, e)) = e ∙ ap (λ x. us ++ x) (ends_all 0 us more k (subst (EndsAtFullStop 0) e h)) ∙ append-nil us
+same_tokens ts us h k (inr (more, e)) = sym (e ∙ ap (λ x. ts ++ x) (ends_all 0 ts more h (subst (EndsAtFullStop 0) e k)) ∙ append-nil ts)
 
 pub item_is : (c d : Clause) → clause_item c ≡ clause_item d → c ≡ d
 item_is c d e = cc

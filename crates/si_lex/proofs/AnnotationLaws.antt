@@ -7,7 +7,7 @@ use Rattle.si_defs.specs.Grammar.{Bracket, brackets_behind, open_behind, nesting
 use Rattle.si_defs.specs.declared.TheConstants.{DEEPEST_NESTING}
 use Rattle.si_lex.specs.declared.lexeme.Lexeme.{Lexeme}
 use Rattle.si_lex.specs.Annotations.{IsPastAnnotations}
-use Rattle.si_lex.specs.FullStops.{HasNoStop, depth_from}
+use Rattle.si_lex.specs.FullStops.{HasNoFullStop, depth_from}
 use Rattle.si_lex.specs.Lexemes.{token_of, tokens_of}
 use Rattle.si_lex.specs.Places.{IsBehindBlanks, IsLexemeAt}
 use Rattle.si_lex.proofs.BracketLaws.{open_after, open_more, open_balanced, step_depth}
@@ -27,7 +27,7 @@ pub record IsInNotes (bytes : Bytes) (at first place : ℕ) (pending : List Brac
   pub here : tokens_of notes ≡ [] → place ≡ first
   pub nested : nesting_from 1 (tokens_of notes) ≤ DEEPEST_NESTING
   pub depth : depth_from 1 (tokens_of notes) ≡ length pending + 1
-  pub no_stop : HasNoStop 1 (tokens_of notes)
+  pub no_stop : HasNoFullStop 1 (tokens_of notes)
 
 pub in_notes_none : (bytes : Bytes) (at first : ℕ) (pending : List Bracket) → pending ≡ [] → at ≤ first → IsBehindBlanks bytes (drop at bytes) first → IsInNotes bytes at first first pending
 in_notes_none bytes at first pending e l b = record {
@@ -70,7 +70,7 @@ module _ (bytes : Bytes) (at first place : ℕ) (pending : List Bracket) (l : Le
         here = λ e. absurd (pushed_some ts t (sym same ∙ e));
         nested = subst (λ x. nesting_from 1 x ≤ DEEPEST_NESTING) (sym same) (omega (arith, all, deep, s.few, few, s.nested, s.depth));
         depth = ap (depth_from 1) same ∙ depth_push 1 ts t ∙ deep;
-        no_stop = subst (λ x. HasNoStop 1 x) (sym same) (stops_push 1 ts t s.no_stop (λ x. absurd (omega (arith, x.0, s.depth))));
+        no_stop = subst (λ x. HasNoFullStop 1 x) (sym same) (stops_push 1 ts t s.no_stop (λ x. absurd (omega (arith, x.0, s.depth))));
       }
 
   -- the bracket that closes the clause after them

@@ -11,7 +11,7 @@ use Rattle.si_lex.specs.declared.lexeme.Lexeme.{Lexeme}
 use Rattle.si_lex.specs.declared.lexing.Lexing.{Lexing}
 use Rattle.si_lex.specs.declared.lexing.TokensEnd.TheVariants.{End, Bad, FullStop}
 use Rattle.si_lex.specs.Annotations.{IsComma, HasNoComma, BeginsClause, LeavesOut, IsBriefUpTo, IsPastAnnotations}
-use Rattle.si_lex.specs.FullStops.{IsStop, HasNoStop, depth_from}
+use Rattle.si_lex.specs.FullStops.{IsFullStop, HasNoFullStop, depth_from}
 use Rattle.si_lex.specs.Lexemes.{token_of, tokens_of}
 use Rattle.si_lex.specs.Lexing.{AreTokensUpTo}
 use Rattle.si_lex.specs.Places.{IsBehindBlanks, IsLexemeAt, NoTokenWithin}
@@ -19,7 +19,7 @@ use Rattle.si_lex.proofs.LexingLaws.{IsSoFar, so_far_none, so_far_more, nesting_
 
 -- ---- some more tokens at once
 so_far_past : (item : Bool) (bytes : Bytes) (at start : ℕ) (all extra : List Lexeme) (depth place end next : ℕ) (s : IsSoFar item bytes at start all depth place)
-    → Begins s.rest (tokens_of extra) (drop end bytes) → nesting_from depth (tokens_of extra) ≤ DEEPEST_NESTING → HasNoStop depth (tokens_of extra) → depth_from depth (tokens_of extra) ≡ 0
+    → Begins s.rest (tokens_of extra) (drop end bytes) → nesting_from depth (tokens_of extra) ≤ DEEPEST_NESTING → HasNoFullStop depth (tokens_of extra) → depth_from depth (tokens_of extra) ≡ 0
     → place ≤ next → IsBehindBlanks bytes (drop end bytes) next → IsSoFar item bytes at start (all ++ extra) 0 next
 so_far_past item bytes at start all extra depth place end next s begins nested no_stop closed onward behind =
     let ts = tokens_of all in
@@ -37,7 +37,7 @@ so_far_past item bytes at start all extra depth place end next s begins nested n
       nested = subst (λ x. nesting x ≤ DEEPEST_NESTING) (sym same) (omega (arith, whole, deeper, s.nested));
       opened = sym (ap (depth_from 0) same ∙ depth_append 0 ts us ∙ ap (λ d. depth_from d us) (sym s.opened) ∙ closed);
       shallow = omega arith;
-      no_stop = λ i. subst (λ x. HasNoStop 0 x) (sym same) (no_stop_append 0 ts us (s.no_stop i) (subst (λ d. HasNoStop d us) s.opened no_stop));
+      no_stop = λ i. subst (λ x. HasNoFullStop 0 x) (sym same) (no_stop_append 0 ts us (s.no_stop i) (subst (λ d. HasNoFullStop d us) s.opened no_stop));
     }
 
 -- ---- commas
@@ -89,7 +89,7 @@ kept_none item bytes at start tokens e l b = record {
 module _ (item tried : Bool) (bytes : Bytes) (at start : ℕ) (tokens : List Lexeme) (depth place : ℕ) (s : IsKept item tried bytes at start tokens depth place) (w : place < length bytes)
     (l : Lexeme) (k : IsLexemeAt bytes place l) where
   pub kept_more : (then_tried : Bool) (next : ℕ) → (then_tried ≡ false → (tried ≡ false) × (6 ≤ length tokens → IsComma depth (token_of l) → ⊥)) → open_behind depth (token_of l) ≤ DEEPEST_NESTING
-      → (IsTrue item → IsStop depth (token_of l) → ⊥) → place + length l.spelling.now ≤ next → IsBehindBlanks bytes (drop (place + length l.spelling.now) bytes) next
+      → (IsTrue item → IsFullStop depth (token_of l) → ⊥) → place + length l.spelling.now ≤ next → IsBehindBlanks bytes (drop (place + length l.spelling.now) bytes) next
       → IsKept item then_tried bytes at start (tokens ++ l ∷ []) (open_behind depth (token_of l)) next
   kept_more then_tried next not_yet shallow no_stop m b = record {
     all = s.all ++ l ∷ [];
@@ -148,11 +148,11 @@ module _ (item tried : Bool) (bytes : Bytes) (at start : ℕ) (tokens : List Lex
     nested : nesting_from 1 (comma ∷ notes ++ right_bracket ∷ []) ≤ DEEPEST_NESTING
     nested = omega (arith, nesting_from-append 1 notes (right_bracket ∷ []), closing, p.nested)
 
-    inside : (t : Token) → IsStop 1 t → ⊥
+    inside : (t : Token) → IsFullStop 1 t → ⊥
     inside t h = absurd (omega (arith, h.0))
 
-    no_stop : HasNoStop 1 (comma ∷ notes ++ right_bracket ∷ [])
-    no_stop = (inside comma, no_stop_append 1 notes (right_bracket ∷ []) p.no_stop (subst (λ d. HasNoStop d (right_bracket ∷ [])) (sym p.depth) (inside right_bracket, tt)))
+    no_stop : HasNoFullStop 1 (comma ∷ notes ++ right_bracket ∷ [])
+    no_stop = (inside comma, no_stop_append 1 notes (right_bracket ∷ []) p.no_stop (subst (λ d. HasNoFullStop d (right_bracket ∷ [])) (sym p.depth) (inside right_bracket, tt)))
 
     closed : depth_from 1 (comma ∷ notes ++ right_bracket ∷ []) ≡ 0
     closed = depth_append 1 notes (right_bracket ∷ []) ∙ ap (λ d. depth_from d (right_bracket ∷ [])) p.depth
@@ -163,7 +163,7 @@ module _ (item tried : Bool) (bytes : Bytes) (at start : ℕ) (tokens : List Lex
     so_far : IsSoFar item bytes at start (s.all ++ extra) 0 next
     so_far =
         so_far_past item bytes at start s.all extra 1 place end next far (subst (λ x. Begins far.rest x (drop end bytes)) (sym spelled) begins)
-        (subst (λ x. nesting_from 1 x ≤ DEEPEST_NESTING) (sym spelled) nested) (subst (λ x. HasNoStop 1 x) (sym spelled) no_stop) (ap (depth_from 1) spelled ∙ closed) onward b
+        (subst (λ x. nesting_from 1 x ≤ DEEPEST_NESTING) (sym spelled) nested) (subst (λ x. HasNoFullStop 1 x) (sym spelled) no_stop) (ap (depth_from 1) spelled ∙ closed) onward b
 
     by : ((s.all ≡ tokens) × (tried ≡ false → HasNoComma 6 0 (tokens_of s.all))) ⊎ (IsTrue item × (tried ≡ false → ⊥) × LeavesOut (tokens_of s.all) (tokens_of tokens))
         → IsKept item true bytes at start (tokens ++ bracket ∷ []) 0 next
@@ -196,13 +196,13 @@ module _ (item tried : Bool) (bytes : Bytes) (at start : ℕ) (tokens : List Lex
 -- ---- where they stop
 module _ (item tried : Bool) (bytes : Bytes) (at : ℕ) (l : Lexing) where
   up_to : (all : List Lexeme) → ((all ≡ l.tokens.items) ⊎ (IsTrue item × LeavesOut (tokens_of all) (tokens_of l.tokens.items)))
-      → AreTokensUpTo item bytes at all l.start l.end l.stop → IsBriefUpTo item bytes at l
+      → AreTokensUpTo item bytes at all l.start l.end l.why → IsBriefUpTo item bytes at l
   up_to all kept h = by item kept h where
     by : (item : Bool) → ((all ≡ l.tokens.items) ⊎ (IsTrue item × LeavesOut (tokens_of all) (tokens_of l.tokens.items)))
-        → AreTokensUpTo item bytes at all l.start l.end l.stop → IsBriefUpTo item bytes at l
+        → AreTokensUpTo item bytes at all l.start l.end l.why → IsBriefUpTo item bytes at l
     by true (inl e) h = record { all = all; read = h; brief = inl e }
     by true (inr (i, out)) h = record { all = all; read = h; brief = inr out }
-    by false (inl e) h = subst (λ x. AreTokensUpTo false bytes at x l.start l.end l.stop) e h
+    by false (inl e) h = subst (λ x. AreTokensUpTo false bytes at x l.start l.end l.why) e h
     by false (inr (i, out)) h = absurd (false≢true i)
 
   parts : {start depth place : ℕ} {tokens : List Lexeme} (s : IsKept item tried bytes at start tokens depth place)
@@ -213,20 +213,20 @@ module _ (item tried : Bool) (bytes : Bytes) (at : ℕ) (l : Lexing) where
     by (inl (same, none)) = inl same
     by (inr (i, n, out)) = inr (i, out)
 
-  pub brief_end : (depth : ℕ) → IsKept item tried bytes at l.start l.tokens.items depth l.end → length bytes ≤ l.end → l.stop ≡ End → IsBriefUpTo item bytes at l
-  brief_end depth s w e = up_to s.all (parts s) (lexing_end item bytes at s.all l.start l.end l.stop depth s.so_far w e)
+  pub brief_end : (depth : ℕ) → IsKept item tried bytes at l.start l.tokens.items depth l.end → length bytes ≤ l.end → l.why ≡ End → IsBriefUpTo item bytes at l
+  brief_end depth s w e = up_to s.all (parts s) (lexing_end item bytes at s.all l.start l.end l.why depth s.so_far w e)
 
-  pub brief_bad : (depth : ℕ) → IsKept item tried bytes at l.start l.tokens.items depth l.end → l.end < length bytes → NoTokenWithin bytes l.end depth → l.stop ≡ Bad
+  pub brief_bad : (depth : ℕ) → IsKept item tried bytes at l.start l.tokens.items depth l.end → l.end < length bytes → NoTokenWithin bytes l.end depth → l.why ≡ Bad
       → IsBriefUpTo item bytes at l
-  brief_bad depth s w n e = up_to s.all (parts s) (lexing_bad item bytes at s.all l.start l.end l.stop depth s.so_far w n e)
+  brief_bad depth s w n e = up_to s.all (parts s) (lexing_bad item bytes at s.all l.start l.end l.why depth s.so_far w n e)
 
   pub brief_stop : (tokens : List Lexeme) (depth place : ℕ) (t : Lexeme) → IsKept item tried bytes at l.start tokens depth place → item ≡ true → place < length bytes
-      → IsLexemeAt bytes place t → open_behind depth (token_of t) ≤ DEEPEST_NESTING → IsStop depth (token_of t) → l.tokens.items ≡ tokens ++ t ∷ []
-      → l.end ≡ place + length t.spelling.now → l.stop ≡ FullStop → IsBriefUpTo item bytes at l
+      → IsLexemeAt bytes place t → open_behind depth (token_of t) ≤ DEEPEST_NESTING → IsFullStop depth (token_of t) → l.tokens.items ≡ tokens ++ t ∷ []
+      → l.end ≡ place + length t.spelling.now → l.why ≡ FullStop → IsBriefUpTo item bytes at l
   brief_stop tokens depth place t s i w k d f items is_end stop =
       up_to (s.all ++ t ∷ []) (by (parts s))
-      (subst (λ x. AreTokensUpTo x bytes at (s.all ++ t ∷ []) l.start l.end l.stop) (sym i)
-      (lexing_stop bytes at (s.all ++ t ∷ []) l.start l.end l.stop s.all depth place t (subst (λ x. IsSoFar x bytes at l.start s.all depth place) i s.so_far) w k d f refl is_end stop)) where
+      (subst (λ x. AreTokensUpTo x bytes at (s.all ++ t ∷ []) l.start l.end l.why) (sym i)
+      (lexing_stop bytes at (s.all ++ t ∷ []) l.start l.end l.why s.all depth place t (subst (λ x. IsSoFar x bytes at l.start s.all depth place) i s.so_far) w k d f refl is_end stop)) where
         by : (s.all ≡ tokens) ⊎ (IsTrue item × LeavesOut (tokens_of s.all) (tokens_of tokens))
             → (s.all ++ t ∷ [] ≡ l.tokens.items) ⊎ (IsTrue item × LeavesOut (tokens_of (s.all ++ t ∷ [])) (tokens_of l.tokens.items))
         by (inl same) = inl (ap (λ x. x ++ t ∷ []) same ∙ sym items)

@@ -13,7 +13,7 @@ use Rattle.si_lex.specs.declared.lexing.TokensEnd.{TokensEnd}
 use Rattle.si_lex.specs.declared.lexing.TokensEnd.TheVariants.{End, Bad, FullStop}
 use Rattle.si_lex.specs.Lexemes.{token_of, tokens_of}
 use Rattle.si_lex.specs.Places.{IsBehindBlanks, IsLexemeAt, NoTokenWithin}
-use Rattle.si_lex.specs.FullStops.{IsStop, HasNoStop, GoesToStop, EndsAtStop, depth_from}
+use Rattle.si_lex.specs.FullStops.{IsFullStop, HasNoFullStop, GoesToFullStop, EndsAtFullStop, depth_from}
 use Rattle.si_lex.specs.Lexing.{IsLexed, AreTokensUpTo}
 use Rattle.si_lex.proofs.BlankLaws.{place_unique}
 use Rattle.si_lex.proofs.TokenLaws.{next_place, blanks_none, begins_unique, begins_prefix}
@@ -41,22 +41,22 @@ depth_append d (t ∷ ts) us = depth_append (open_behind d t) ts us
 
 -- ---- full stops
 -- tokens without one after others
-pub no_stop_append : (d : ℕ) (ts us : List Token) → HasNoStop d ts → HasNoStop (depth_from d ts) us → HasNoStop d (ts ++ us)
+pub no_stop_append : (d : ℕ) (ts us : List Token) → HasNoFullStop d ts → HasNoFullStop (depth_from d ts) us → HasNoFullStop d (ts ++ us)
 no_stop_append d [] us h k = k
 no_stop_append d (t ∷ ts) us h k = (h.0, no_stop_append (open_behind d t) ts us h.1 k)
 
 -- one more token that does not end an item
-pub stops_push : (d : ℕ) (ts : List Token) (t : Token) → HasNoStop d ts → (IsStop (depth_from d ts) t → ⊥) → HasNoStop d (ts ++ t ∷ [])
+pub stops_push : (d : ℕ) (ts : List Token) (t : Token) → HasNoFullStop d ts → (IsFullStop (depth_from d ts) t → ⊥) → HasNoFullStop d (ts ++ t ∷ [])
 stops_push d [] t h n = (n, tt)
 stops_push d (u ∷ us) t h n = (h.0, stops_push (open_behind d u) us t h.1 n)
 
 -- and one that does
-ends_push : (d : ℕ) (ts : List Token) (t : Token) → HasNoStop d ts → IsStop (depth_from d ts) t → EndsAtStop d (ts ++ t ∷ [])
+ends_push : (d : ℕ) (ts : List Token) (t : Token) → HasNoFullStop d ts → IsFullStop (depth_from d ts) t → EndsAtFullStop d (ts ++ t ∷ [])
 ends_push d [] t h s = inl (s, refl)
 ends_push d (u ∷ us) t h s = inr (h.0, ends_push (open_behind d u) us t h.1 s)
 
 -- after the end of an item nothing stands
-nothing_behind_stop : (d : ℕ) (ts : List Token) (u : Token) (us : List Token) → EndsAtStop d ts → GoesToStop d (ts ++ u ∷ us) → ⊥
+nothing_behind_stop : (d : ℕ) (ts : List Token) (u : Token) (us : List Token) → EndsAtFullStop d ts → GoesToFullStop d (ts ++ u ∷ us) → ⊥
 nothing_behind_stop d [] u us e g = e
 nothing_behind_stop d (t ∷ ts) u us (inl e) g = nothing ts (g.0 e.0) where
   nothing : (xs : List Token) → xs ++ u ∷ us ≡ [] → ⊥
@@ -77,7 +77,7 @@ pub record IsSoFar (item : Bool) (bytes : Bytes) (at start : ℕ) (tokens : List
   pub nested : nesting (tokens_of tokens) ≤ DEEPEST_NESTING
   pub opened : depth ≡ depth_from 0 (tokens_of tokens)
   pub shallow : depth ≤ DEEPEST_NESTING
-  pub no_stop : IsTrue item → HasNoStop 0 (tokens_of tokens)
+  pub no_stop : IsTrue item → HasNoFullStop 0 (tokens_of tokens)
 
 pub so_far_none : (item : Bool) (bytes : Bytes) (at start : ℕ) → at ≤ start → IsBehindBlanks bytes (drop at bytes) start → IsSoFar item bytes at start [] 0 start
 so_far_none item bytes at start l b = record {
@@ -113,7 +113,7 @@ push_nested tokens l depth n o s d =
     subst (λ ts. nesting ts ≤ DEEPEST_NESTING) (sym (map_push token_of tokens l)) (omega arith)
 
 pub so_far_more : (item : Bool) (bytes : Bytes) (at start : ℕ) (tokens : List Lexeme) (depth place next : ℕ) (l : Lexeme) → IsSoFar item bytes at start tokens depth place
-    → place < length bytes → IsLexemeAt bytes place l → open_behind depth (token_of l) ≤ DEEPEST_NESTING → (IsTrue item → IsStop depth (token_of l) → ⊥)
+    → place < length bytes → IsLexemeAt bytes place l → open_behind depth (token_of l) ≤ DEEPEST_NESTING → (IsTrue item → IsFullStop depth (token_of l) → ⊥)
     → place + length l.spelling.now ≤ next → IsBehindBlanks bytes (drop (place + length l.spelling.now) bytes) next
     → IsSoFar item bytes at start (tokens ++ l ∷ []) (open_behind depth (token_of l)) next
 so_far_more item bytes at start tokens depth place next l s w k d n m b =
@@ -130,8 +130,8 @@ so_far_more item bytes at start tokens depth place next l s w k d n m b =
           ap (λ x. open_behind x (token_of l)) s.opened ∙ sym (depth_push 0 (tokens_of tokens) (token_of l)) ∙ ap (depth_from 0) (sym (map_push token_of tokens l));
       shallow = d;
       no_stop = λ i.
-          subst (λ ts. HasNoStop 0 ts) (sym (map_push token_of tokens l))
-          (stops_push 0 (tokens_of tokens) (token_of l) (s.no_stop i) (λ x. n i (subst (λ y. IsStop y (token_of l)) (sym s.opened) x)));
+          subst (λ ts. HasNoFullStop 0 ts) (sym (map_push token_of tokens l))
+          (stops_push 0 (tokens_of tokens) (token_of l) (s.no_stop i) (λ x. n i (subst (λ y. IsFullStop y (token_of l)) (sym s.opened) x)));
     }
 
 -- ---- where they stop
@@ -161,16 +161,16 @@ so_far_some item bytes at start tokens depth place l s w k a =
 
 -- why no more tokens are taken, but for a full stop: only blanks follow, or no token, or brackets
 -- would nest too deep
-pub record IsOver (rest : Bytes) (depth : ℕ) (stop : TokensEnd) : Type 0 where
-  pub no_stop : stop ≡ FullStop → ⊥
-  pub blanks : stop ≡ End → AreBlanks rest
-  pub more : (stop ≡ End → ⊥) → AreBlanks rest → ⊥
+pub record IsOver (rest : Bytes) (depth : ℕ) (why : TokensEnd) : Type 0 where
+  pub no_stop : why ≡ FullStop → ⊥
+  pub blanks : why ≡ End → AreBlanks rest
+  pub more : (why ≡ End → ⊥) → AreBlanks rest → ⊥
   pub deep : (u : Token) (after : Bytes) → NextToken rest u after → DEEPEST_NESTING < open_behind depth u
 
 -- no longer list of tokens is nested so that it could go on
-too_deep : (ts : List Token) (bytes rest behind : Bytes) (u : Token) (us : List Token) (stop : TokensEnd) → Begins bytes ts rest → IsOver rest (depth_from 0 ts) stop
+too_deep : (ts : List Token) (bytes rest behind : Bytes) (u : Token) (us : List Token) (why : TokensEnd) → Begins bytes ts rest → IsOver rest (depth_from 0 ts) why
     → Begins bytes (ts ++ u ∷ us) behind → nesting (ts ++ u ∷ us) ≤ DEEPEST_NESTING → ⊥
-too_deep ts bytes rest behind u us stop b o g n =
+too_deep ts bytes rest behind u us why b o g n =
     let s = begins_split ts (u ∷ us) bytes behind g in
     let same : s.0 ≡ rest = begins_unique ts bytes s.0 rest s.1 b in
     let deep = o.deep u s.2.0 (subst (λ x. NextToken x u s.2.0) same s.2.1) in
@@ -178,21 +178,21 @@ too_deep ts bytes rest behind u us stop b o g n =
     let least = depth-le-nesting (open_behind (depth_from 0 ts) u) us in
     omega arith
 
-over_every : (tokens : List Token) (bytes rest : Bytes) (stop : TokensEnd) → Begins bytes tokens rest → IsOver rest (depth_from 0 tokens) stop
+over_every : (tokens : List Token) (bytes rest : Bytes) (why : TokensEnd) → Begins bytes tokens rest → IsOver rest (depth_from 0 tokens) why
     → (ts : List Token) (behind : Bytes) → Begins bytes ts behind → nesting ts ≤ DEEPEST_NESTING → (others : List Token) × (tokens ≡ ts ++ others)
-over_every tokens bytes rest stop b o ts behind g n = by (begins_prefix tokens ts bytes rest behind b g) where
+over_every tokens bytes rest why b o ts behind g n = by (begins_prefix tokens ts bytes rest behind b g) where
   longer : (more : List Token) → ts ≡ tokens ++ more → (others : List Token) × (tokens ≡ ts ++ others)
   longer [] e = ([], sym (append-nil ts ∙ e ∙ append-nil tokens))
   longer (u ∷ us) e =
-      absurd (too_deep tokens bytes rest behind u us stop b o (subst (λ x. Begins bytes x behind) e g) (subst (λ x. nesting x ≤ DEEPEST_NESTING) e n))
+      absurd (too_deep tokens bytes rest behind u us why b o (subst (λ x. Begins bytes x behind) e g) (subst (λ x. nesting x ≤ DEEPEST_NESTING) e n))
 
   by : ((more : List Token) × (tokens ≡ ts ++ more)) ⊎ ((more : List Token) × (ts ≡ tokens ++ more)) → (others : List Token) × (tokens ≡ ts ++ others)
   by (inl m) = m
   by (inr m) = longer m.0 m.1
 
-over_whole : (tokens : List Token) (bytes rest : Bytes) (stop : TokensEnd) → ((stop ≡ End) ⊎ (stop ≡ End → ⊥)) → Begins bytes tokens rest → IsOver rest (depth_from 0 tokens) stop
-    → (ts : List Token) → Consists bytes ts → nesting ts ≤ DEEPEST_NESTING → (stop ≡ End) × (tokens ≡ ts)
-over_whole tokens bytes rest stop d b o ts c n = by d (over_every tokens bytes rest stop b o ts c.rest c.begins n) where
+over_whole : (tokens : List Token) (bytes rest : Bytes) (why : TokensEnd) → ((why ≡ End) ⊎ (why ≡ End → ⊥)) → Begins bytes tokens rest → IsOver rest (depth_from 0 tokens) why
+    → (ts : List Token) → Consists bytes ts → nesting ts ≤ DEEPEST_NESTING → (why ≡ End) × (tokens ≡ ts)
+over_whole tokens bytes rest why d b o ts c n = by d (over_every tokens bytes rest why b o ts c.rest c.begins n) where
   none : (others : List Token) → tokens ≡ ts ++ others → tokens ≡ ts
   none [] e = e ∙ append-nil ts
   none (u ∷ us) e =
@@ -200,7 +200,7 @@ over_whole tokens bytes rest stop d b o ts c n = by d (over_every tokens bytes r
       let same : s.0 ≡ c.rest = begins_unique ts bytes s.0 c.rest s.1 c.begins in
       absurd (blanks_none c.rest c.blanks u s.2.0 (subst (λ x. NextToken x u s.2.0) same s.2.1))
 
-  by : (stop ≡ End) ⊎ (stop ≡ End → ⊥) → (others : List Token) × (tokens ≡ ts ++ others) → (stop ≡ End) × (tokens ≡ ts)
+  by : (why ≡ End) ⊎ (why ≡ End → ⊥) → (others : List Token) × (tokens ≡ ts ++ others) → (why ≡ End) × (tokens ≡ ts)
   by (inl e) m = (e, none m.0 m.1)
   by (inr e) m =
       let same = none m.0 m.1 in
@@ -289,7 +289,7 @@ lexing_bad item bytes at found start end why depth s w n e =
 
 -- after a full stop outside brackets
 pub lexing_stop : (bytes : Bytes) (at : ℕ) (found : List Lexeme) (start end : ℕ) (why : TokensEnd) (tokens : List Lexeme) (depth place : ℕ) (t : Lexeme) → IsSoFar true bytes at start tokens depth place
-    → place < length bytes → IsLexemeAt bytes place t → open_behind depth (token_of t) ≤ DEEPEST_NESTING → IsStop depth (token_of t)
+    → place < length bytes → IsLexemeAt bytes place t → open_behind depth (token_of t) ≤ DEEPEST_NESTING → IsFullStop depth (token_of t)
     → found ≡ tokens ++ t ∷ [] → end ≡ place + length t.spelling.now → why ≡ FullStop → AreTokensUpTo true bytes at found start end why
 lexing_stop bytes at found start end why tokens depth place t s w k d f items is_end stop =
     let ahead = s.onward in
@@ -298,9 +298,9 @@ lexing_stop bytes at found start end why tokens depth place t s w k d f items is
     subst (λ ts. Begins (drop at bytes) (tokens_of ts) (drop end bytes)) (sym items)
     (subst (λ n. Begins (drop at bytes) (tokens_of (tokens ++ t ∷ [])) (drop n bytes)) (sym is_end)
     (push_begins (drop at bytes) s.rest (drop (place + length t.spelling.now) bytes) tokens t s.begins (next_at bytes s.rest place t s.behind w k))) in
-    let ends : EndsAtStop 0 (tokens_of found) =
-    subst (λ ts. EndsAtStop 0 (tokens_of ts)) (sym items) (subst (λ ts. EndsAtStop 0 ts) (sym (map_push token_of tokens t))
-    (ends_push 0 (tokens_of tokens) (token_of t) (s.no_stop refl) (subst (λ n. IsStop n (token_of t)) s.opened f))) in
+    let ends : EndsAtFullStop 0 (tokens_of found) =
+    subst (λ ts. EndsAtFullStop 0 (tokens_of ts)) (sym items) (subst (λ ts. EndsAtFullStop 0 ts) (sym (map_push token_of tokens t))
+    (ends_push 0 (tokens_of tokens) (token_of t) (s.no_stop refl) (subst (λ n. IsFullStop n (token_of t)) s.opened f))) in
     record {
       rest = drop end bytes;
       read = record {
@@ -320,15 +320,15 @@ lexing_stop bytes at found start end why tokens depth place t s w k d f items is
       no_stop = λ e. absurd (e stop);
       every = λ ts behind g n u. by ts behind g u ends (begins_prefix (tokens_of found) ts (drop at bytes) (drop end bytes) behind begins g);
     } where
-      some : EndsAtStop 0 (tokens_of found) → tokens_of found ≡ [] → ⊥
-      some e n = subst (λ ts. EndsAtStop 0 ts) n e
+      some : EndsAtFullStop 0 (tokens_of found) → tokens_of found ≡ [] → ⊥
+      some e n = subst (λ ts. EndsAtFullStop 0 ts) n e
 
-      longer : (ts : List Token) → GoesToStop 0 ts → EndsAtStop 0 (tokens_of found) → (more : List Token) → ts ≡ tokens_of found ++ more
+      longer : (ts : List Token) → GoesToFullStop 0 ts → EndsAtFullStop 0 (tokens_of found) → (more : List Token) → ts ≡ tokens_of found ++ more
           → (others : List Token) × (tokens_of found ≡ ts ++ others)
       longer ts u e [] q = ([], sym (append-nil ts ∙ q ∙ append-nil (tokens_of found)))
-      longer ts u e (x ∷ xs) q = absurd (nothing_behind_stop 0 (tokens_of found) x xs e (subst (λ y. GoesToStop 0 y) q u))
+      longer ts u e (x ∷ xs) q = absurd (nothing_behind_stop 0 (tokens_of found) x xs e (subst (λ y. GoesToFullStop 0 y) q u))
 
-      by : (ts : List Token) (behind : Bytes) → Begins (drop at bytes) ts behind → GoesToStop 0 ts → EndsAtStop 0 (tokens_of found)
+      by : (ts : List Token) (behind : Bytes) → Begins (drop at bytes) ts behind → GoesToFullStop 0 ts → EndsAtFullStop 0 (tokens_of found)
           → ((more : List Token) × (tokens_of found ≡ ts ++ more)) ⊎ ((more : List Token) × (ts ≡ tokens_of found ++ more))
           → (others : List Token) × (tokens_of found ≡ ts ++ others)
       by ts behind g u e (inl m) = m

@@ -6,7 +6,7 @@ use Rattle.si_defs.specs.Grammar.{balances, open_behind, nesting_from, comma, ri
 use Rattle.si_defs.specs.declared.TheConstants.{DEEPEST_NESTING}
 use Rattle.si_lex.specs.declared.lexeme.Lexeme.{Lexeme}
 use Rattle.si_lex.specs.declared.lexing.Lexing.{Lexing}
-use Rattle.si_lex.specs.FullStops.{HasNoStop, depth_from}
+use Rattle.si_lex.specs.FullStops.{HasNoFullStop, depth_from}
 use Rattle.si_lex.specs.Lexemes.{token_of, tokens_of}
 use Rattle.si_lex.specs.Lexing.{AreItemTokens, IsLexing}
 
@@ -37,7 +37,7 @@ pub record LeavesOut (ts left : List Token) : Type 0 where
   pub long : 6 ≤ length front
   pub depth : depth_from 0 front ≡ 1
   pub no_comma : HasNoComma 6 0 front
-  pub no_stop : HasNoStop 0 front
+  pub no_stop : HasNoFullStop 0 front
   pub some : notes ≢ []
   pub balanced : IsTrue (balances notes [])
   pub whole : ts ≡ front ++ comma ∷ notes ++ right_bracket ∷ rest
@@ -46,7 +46,7 @@ pub record LeavesOut (ts left : List Token) : Type 0 where
 -- the tokens of one item, all of them or without annotations
 pub record IsBriefLexing (bytes : Bytes) (at : ℕ) (l : Lexing) : Type 0 where
   pub all : List Lexeme
-  pub read : AreItemTokens bytes at all l.start l.end l.stop
+  pub read : AreItemTokens bytes at all l.start l.end l.why
   pub brief : (all ≡ l.tokens.items) ⊎ LeavesOut (tokens_of all) (tokens_of l.tokens.items)
 
 -- all tokens, or those of one item
@@ -64,7 +64,7 @@ pub record IsPastAnnotations (bytes : Bytes) (at : ℕ) (bracket : Lexeme) (end 
   pub balanced : IsTrue (balances (tokens_of notes) [])
   pub nested : nesting_from 1 (tokens_of notes) ≤ DEEPEST_NESTING
   pub depth : depth_from 1 (tokens_of notes) ≡ 1
-  pub no_stop : HasNoStop 1 (tokens_of notes)
+  pub no_stop : HasNoFullStop 1 (tokens_of notes)
   pub closes : token_of bracket ≡ right_bracket
   pub next : NextToken rest (token_of bracket) (drop end bytes)
   pub onward : at ≤ end

@@ -10,7 +10,7 @@ use Rattle.si_lex.specs.declared.lexing.TokensEnd.{TokensEnd}
 use Rattle.si_lex.specs.declared.lexing.TokensEnd.TheVariants.{End, Bad, FullStop}
 use Rattle.si_lex.specs.Lexemes.{tokens_of}
 use Rattle.si_lex.specs.Places.{IsBehindBlanks}
-use Rattle.si_lex.specs.FullStops.{HasNoStop, GoesToStop, EndsAtStop}
+use Rattle.si_lex.specs.FullStops.{HasNoFullStop, GoesToFullStop, EndsAtFullStop}
 
 -- What was read, whichever tokens are wanted, and why they end: `start` is the place after the
 -- longest blanks, and so is `end` after what was read, but where a full stop ends it.
@@ -28,7 +28,7 @@ pub record IsLexed (bytes : Bytes) (at : ℕ) (tokens : List Lexeme) (start end 
   pub blanks : why ≡ End → AreBlanks rest
   -- at a bad place more than blanks is left
   pub bad : why ≡ Bad → AreBlanks rest → ⊥
-  -- without tokens, the stop says whether anything but blanks stands there
+  -- without tokens, it says whether anything but blanks stands there
   pub faulty : (why ≡ End → ⊥) → AreBlanks (drop at bytes) → ⊥
 
 -- All tokens, up to the first place where none stands or where brackets would nest too deep.
@@ -52,12 +52,12 @@ pub record AreItemTokens (bytes : Bytes) (at : ℕ) (tokens : List Lexeme) (star
   pub rest : Bytes
   pub read : IsLexed bytes at tokens start end why rest
   -- after a full stop nothing was read
-  pub stop : why ≡ FullStop → EndsAtStop 0 (tokens_of tokens) × (rest ≡ drop end bytes)
-  pub no_stop : (why ≡ FullStop → ⊥) → HasNoStop 0 (tokens_of tokens)
+  pub stop : why ≡ FullStop → EndsAtFullStop 0 (tokens_of tokens) × (rest ≡ drop end bytes)
+  pub no_stop : (why ≡ FullStop → ⊥) → HasNoFullStop 0 (tokens_of tokens)
   -- whatever tokens the bytes begin with, nested no deeper and up to a full stop at most, they are
   -- the first of these
   pub every : (ts : List Token) (behind : Bytes) → Begins (drop at bytes) ts behind
-      → nesting ts ≤ DEEPEST_NESTING → GoesToStop 0 ts
+      → nesting ts ≤ DEEPEST_NESTING → GoesToFullStop 0 ts
       → (others : List Token) × (tokens_of tokens ≡ ts ++ others)
 
 -- the one or the other
@@ -67,4 +67,4 @@ AreTokensUpTo false bytes at tokens start end why = AreAllTokens bytes at tokens
 
 -- all tokens are listed
 abbrev pub IsLexing : Bytes → ℕ → Lexing → Type 0
-IsLexing bytes at l = AreAllTokens bytes at l.tokens.items l.start l.end l.stop
+IsLexing bytes at l = AreAllTokens bytes at l.tokens.items l.start l.end l.why

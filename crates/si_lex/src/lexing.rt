@@ -4,7 +4,7 @@ ghost use Rattle.std.specs.Prelude.{MatchOption, []};
 ghost use Rattle.si_defs.specs.Tokens.{AreBlanks};
 ghost use Rattle.si_defs.specs.declared.TheConstants.{DEEPEST_NESTING};
 ghost use Rattle.si_lex.specs.Firsts.{depth_behind};
-ghost use Rattle.si_lex.specs.FullStops.{IsStop};
+ghost use Rattle.si_lex.specs.FullStops.{IsFullStop};
 ghost use Rattle.si_lex.specs.Lexemes.{token_of};
 ghost use Rattle.si_lex.specs.Annotations.{IsBriefLexing, IsBriefUpTo};
 ghost use Rattle.si_lex.specs.Lexing.{IsLexing};
@@ -40,21 +40,21 @@ pub struct Lexing<'a> {
     /// that follow the last token.
     pub end: usize,
     /// Why there are no more.
-    pub stop: TokensEnd,
+    pub why: TokensEnd,
 }
 
 impl<'a> Lexing<'a> {
     // These tokens, with where they begin and end, and why they end there.
     #[inline(always)]
-    fn new(tokens: Vec<Lexeme<'a>>, start: usize, end: usize, stop: TokensEnd) -> Lexing<'a>
+    fn new(tokens: Vec<Lexeme<'a>>, start: usize, end: usize, why: TokensEnd) -> Lexing<'a>
         ensures { result
-            ≡ record { tokens = tokens.entry; start = start; end = end; stop = stop } }
+            ≡ record { tokens = tokens.entry; start = start; end = end; why = why } }
     {
         Lexing {
             tokens,
             start,
             end,
-            stop,
+            why,
         }
     }
 }
@@ -125,9 +125,9 @@ fn lex_up_to<'a>(
                 continue;
             }
         }
-        let stops = is_stop(depth, &lexeme);
+        let full_stop = is_full_stop(depth, &lexeme);
         tokens.push(lexeme)?;
-        if item && stops {
+        if item && full_stop {
             return Ok(Lexing::new(tokens, start, end, TokensEnd::FullStop));
         }
         depth = behind;
@@ -164,8 +164,8 @@ fn room<'a>(alloc: Global, some: bool, bytes: usize) -> Result<Vec<Lexeme<'a>>, 
 }
 
 // Whether a token is a full stop outside brackets, where this many are open before.
-fn is_stop(depth: usize, lexeme: &Lexeme) -> bool
-    ensures { IsTrue result ↔ IsStop depth (token_of lexeme.now) }
+fn is_full_stop(depth: usize, lexeme: &Lexeme) -> bool
+    ensures { IsTrue result ↔ IsFullStop depth (token_of lexeme.now) }
 {
     depth == 0 && lexeme.is_mark(b'.')
 }

@@ -17,7 +17,7 @@ use Rattle.si_defs.specs.declared.TokenKind.{TokenKind}
 use Rattle.si_defs.specs.declared.TokenKind.TheVariants as token
 use Rattle.si_defs.proofs.ListLaws.{same_first, same_tail}
 use Rattle.si_lex.specs.Annotations.{IsComma, HasNoComma, BeginsClause, LeavesOut}
-use Rattle.si_lex.specs.FullStops.{HasNoStop, depth_from}
+use Rattle.si_lex.specs.FullStops.{HasNoFullStop, depth_from}
 use Rattle.si_lex.specs.Lexemes.{token_of, tokens_of}
 use Rattle.si_lex.specs.declared.lexeme.Lexeme.{Lexeme}
 use Rattle.si_lex.specs.declared.lexing.TokensEnd.{TokensEnd}
@@ -238,7 +238,7 @@ no_stop_closes ys rest (inr (r, y)) e = stop_no_bracket (same_first (e ∙ y))
 
 -- A formula ends where the first comma with one bracket open stands, or the bracket that closes the
 -- clause before its full stop.
-same_end : (d : ℕ) (formula inner xs ys : List Token) → IsInside d formula → depth_from d formula ≡ 1 → HasNoComma zero d inner → HasNoStop d inner → depth_from d inner ≡ 1
+same_end : (d : ℕ) (formula inner xs ys : List Token) → IsInside d formula → depth_from d formula ≡ 1 → HasNoComma zero d inner → HasNoFullStop d inner → depth_from d inner ≡ 1
     → GoesOn xs → Closes ys → formula ++ xs ≡ inner ++ ys → (formula ≡ inner) × (xs ≡ ys)
 same_end d [] [] xs ys i a n s b x y e = (refl, e)
 same_end d [] (t ∷ inner) xs ys i a n s b (inl (r, x)) y e = absurd (n.0 (a, sym (same_first (sym x ∙ e))))
@@ -246,7 +246,7 @@ same_end d [] (t ∷ inner) xs ys i a n s b (inr (r, x)) y e = absurd (by inner 
   closed : open_behind d t ≡ 0
   closed = none_open d t a (sym (same_first (sym x ∙ e)))
 
-  by : (us : List Token) → HasNoStop (open_behind d t) us → full_stop ∷ r ≡ us ++ ys → ⊥
+  by : (us : List Token) → HasNoFullStop (open_behind d t) us → full_stop ∷ r ≡ us ++ ys → ⊥
   by [] h f = no_stop_closes ys r y f
   by (u ∷ us) h f = h.0 (closed, sym (same_first f))
 same_end d (t ∷ formula) [] xs ys i a n s b x (inl (r, y)) e = absurd (i.0 (b, same_first (e ∙ y)))
@@ -254,7 +254,7 @@ same_end d (t ∷ formula) [] xs ys i a n s b x (inr (r, y)) e = absurd (omega (
 same_end d (t ∷ formula) (u ∷ inner) xs ys i a n s b x y e =
     let same : u ≡ t = sym (same_first e) in
     let h =
-    same_end (open_behind d t) formula inner xs ys i.1.1 a (subst (λ v. HasNoComma zero (open_behind d v) inner) same n.1) (subst (λ v. HasNoStop (open_behind d v) inner) same s.1)
+    same_end (open_behind d t) formula inner xs ys i.1.1 a (subst (λ v. HasNoComma zero (open_behind d v) inner) same n.1) (subst (λ v. HasNoFullStop (open_behind d v) inner) same s.1)
     (subst (λ v. depth_from (open_behind d v) inner ≡ 1) same b) x y (same_tail e) in
     (ap (λ v. v ∷ formula) (sym same) ∙ ap (λ v. u ∷ v) h.0, h.1)
 
@@ -278,8 +278,8 @@ module _ (c : Clause) (name : Token) (is_name : IsName c.name name) (front inner
   heading_comma : HasNoComma 6 0 front → HasNoComma zero 1 inner
   heading_comma h = subst (λ n. HasNoComma zero n inner) depth_of (subst (λ x. HasNoComma 6 0 x) e h)
 
-  heading_stop : HasNoStop 0 front → HasNoStop 1 inner
-  heading_stop h = let k = subst (λ x. HasNoStop 0 x) e h in subst (λ n. HasNoStop n inner) depth_of k.1.1.1.1.1.1
+  heading_stop : HasNoFullStop 0 front → HasNoFullStop 1 inner
+  heading_stop h = let k = subst (λ x. HasNoFullStop 0 x) e h in subst (λ n. HasNoFullStop n inner) depth_of k.1.1.1.1.1.1
 
   heading_depth : depth_from 0 front ≡ 1 → depth_from 1 inner ≡ 1
   heading_depth h = ap (λ n. depth_from n inner) (sym depth_of) ∙ sym (ap (depth_from 0) e) ∙ h

@@ -16,7 +16,7 @@ use Rattle.si_defs.specs.declared.NameKind.{NameKind}
 use Rattle.si_defs.specs.declared.NameKind.TheVariants as named
 use Rattle.si_defs.specs.declared.TokenKind.TheVariants.{Single}
 use Rattle.si_defs.specs.Texts.{BeginsWithItem}
-use Rattle.si_lex.specs.FullStops.{IsStop, HasNoStop, GoesToStop, EndsAtStop, depth_from}
+use Rattle.si_lex.specs.FullStops.{IsFullStop, HasNoFullStop, GoesToFullStop, EndsAtFullStop, depth_from}
 use Rattle.si_lex.proofs.TokenLaws.{blanks_none}
 use Rattle.si_lex.proofs.BracketLaws.{step_depth}
 use Rattle.si_lex.proofs.LexingLaws.{no_stop_append, depth_append}
@@ -24,14 +24,14 @@ use Rattle.si_parse.proofs.GrammarTerms.{head_constant}
 
 -- Inside brackets these tokens have no full stop outside them, and leave as many open as before.
 abbrev pub Level : List Token → Type 0
-Level ts = (d : ℕ) → HasNoStop (suc d) ts × (depth_from (suc d) ts ≡ suc d)
+Level ts = (d : ℕ) → HasNoFullStop (suc d) ts × (depth_from (suc d) ts ≡ suc d)
 
 -- inside brackets no full stop is outside
-inside : (d : ℕ) (t : Token) → IsStop (suc d) t → ⊥
+inside : (d : ℕ) (t : Token) → IsFullStop (suc d) t → ⊥
 inside d t h = absurd (omega (arith, h.0))
 
 -- ---- one after another
-ends_append : (d : ℕ) (ts us : List Token) → HasNoStop d ts → EndsAtStop (depth_from d ts) us → EndsAtStop d (ts ++ us)
+ends_append : (d : ℕ) (ts us : List Token) → HasNoFullStop d ts → EndsAtFullStop (depth_from d ts) us → EndsAtFullStop d (ts ++ us)
 ends_append d [] us h k = k
 ends_append d (t ∷ ts) us h k = inr (h.0, ends_append (open_behind d t) ts us h.1 k)
 
@@ -40,7 +40,7 @@ level_none d = (tt, refl)
 
 level_append : (ts us : List Token) → Level ts → Level us → Level (ts ++ us)
 level_append ts us h k d = (
-  no_stop_append (suc d) ts us (h d).0 (subst (λ n. HasNoStop n us) (sym (h d).1) (k d).0),
+  no_stop_append (suc d) ts us (h d).0 (subst (λ n. HasNoFullStop n us) (sym (h d).1) (k d).0),
   depth_append (suc d) ts us ∙ ap (λ n. depth_from n us) (h d).1 ∙ (k d).1,
 )
 
@@ -56,7 +56,7 @@ pub flat_depth : (d : ℕ) (t : Token) → Flat t → open_behind d t ≡ d
 flat_depth d t h = rw (h.0, h.1) refl
 
 level_flat : (t : Token) (ts : List Token) → Flat t → Level ts → Level (t ∷ ts)
-level_flat t ts h k d = ((inside d t, subst (λ n. HasNoStop n ts) (sym (flat_depth (suc d) t h)) (k d).0), ap (λ n. depth_from n ts) (flat_depth (suc d) t h) ∙ (k d).1)
+level_flat t ts h k d = ((inside d t, subst (λ n. HasNoFullStop n ts) (sym (flat_depth (suc d) t h)) (k d).0), ap (λ n. depth_from n ts) (flat_depth (suc d) t h) ∙ (k d).1)
 
 pub flat_at : {t u : Token} → t ≡ u → Flat u → Flat t
 flat_at e h = subst Flat (sym e) h
@@ -75,8 +75,8 @@ level_round ts h d =
     let closed_now : depth_from (suc (suc d)) (right_bracket ∷ []) ≡ suc d = one_less (suc d) in (
       (
         inside d left_bracket,
-        subst (λ n. HasNoStop n (ts ++ right_bracket ∷ [])) (sym open_now)
-            (no_stop_append (suc (suc d)) ts (right_bracket ∷ []) (h (suc d)).0 (subst (λ n. HasNoStop n (right_bracket ∷ [])) (sym (h (suc d)).1) (inside (suc d) right_bracket, tt))),
+        subst (λ n. HasNoFullStop n (ts ++ right_bracket ∷ [])) (sym open_now)
+            (no_stop_append (suc (suc d)) ts (right_bracket ∷ []) (h (suc d)).0 (subst (λ n. HasNoFullStop n (right_bracket ∷ [])) (sym (h (suc d)).1) (inside (suc d) right_bracket, tt))),
       ),
       ap (λ n. depth_from n (ts ++ right_bracket ∷ [])) open_now ∙ depth_append (suc (suc d)) ts (right_bracket ∷ []) ∙ ap (λ n. depth_from n (right_bracket ∷ [])) (h (suc d)).1 ∙ closed_now,
     )
@@ -87,8 +87,8 @@ level_square ts h d =
     let closed_now : depth_from (suc (suc d)) (mark 93 ∷ []) ≡ suc d = one_less (suc d) in (
       (
         inside d (mark 91),
-        subst (λ n. HasNoStop n (ts ++ mark 93 ∷ [])) (sym open_now)
-            (no_stop_append (suc (suc d)) ts (mark 93 ∷ []) (h (suc d)).0 (subst (λ n. HasNoStop n (mark 93 ∷ [])) (sym (h (suc d)).1) (inside (suc d) (mark 93), tt))),
+        subst (λ n. HasNoFullStop n (ts ++ mark 93 ∷ [])) (sym open_now)
+            (no_stop_append (suc (suc d)) ts (mark 93 ∷ []) (h (suc d)).0 (subst (λ n. HasNoFullStop n (mark 93 ∷ [])) (sym (h (suc d)).1) (inside (suc d) (mark 93), tt))),
       ),
       ap (λ n. depth_from n (ts ++ mark 93 ∷ [])) open_now ∙ depth_append (suc (suc d)) ts (mark 93 ∷ []) ∙ ap (λ n. depth_from n (mark 93 ∷ [])) (h (suc d)).1 ∙ closed_now,
     )
@@ -169,21 +169,21 @@ level_formula ls ts (n, inner, h, e) = level_at e (level_brackets n inner (level
 
 -- ---- annotations
 -- balanced tokens leave as many brackets open as were open before those that they close
-level_balanced : (ts : List Token) (pending : List Bracket) (d : ℕ) → IsTrue (balances ts pending) → HasNoStop (length pending + suc d) ts × (depth_from (length pending + suc d) ts ≡ suc d)
+level_balanced : (ts : List Token) (pending : List Bracket) (d : ℕ) → IsTrue (balances ts pending) → HasNoFullStop (length pending + suc d) ts × (depth_from (length pending + suc d) ts ≡ suc d)
 level_balanced [] [] d h = (tt, omega arith)
 level_balanced [] (b ∷ bs) d h = absurd (false≢true h)
 level_balanced (t ∷ ts) pending d h = by (brackets_behind t pending) refl h (λ next f. level_balanced ts next d f) where
-  outside : IsStop (length pending + suc d) t → ⊥
+  outside : IsFullStop (length pending + suc d) t → ⊥
   outside s = absurd (omega (arith, s.0))
 
   by : (o : Option (List Bracket)) → brackets_behind t pending ≡ o → IsTrue (option_map_or (balances ts) o false)
-      → ((next : List Bracket) → IsTrue (balances ts next) → HasNoStop (length next + suc d) ts × (depth_from (length next + suc d) ts ≡ suc d))
-      → HasNoStop (length pending + suc d) (t ∷ ts) × (depth_from (length pending + suc d) (t ∷ ts) ≡ suc d)
+      → ((next : List Bracket) → IsTrue (balances ts next) → HasNoFullStop (length next + suc d) ts × (depth_from (length next + suc d) ts ≡ suc d))
+      → HasNoFullStop (length pending + suc d) (t ∷ ts) × (depth_from (length pending + suc d) (t ∷ ts) ≡ suc d)
   by None e f again = absurd (false≢true f)
   by (Some next) e f again =
       let k = again next f in
       let depth = step_depth t pending next (suc d) e in
-      ((outside, subst (λ n. HasNoStop n ts) (sym depth) k.0), ap (λ n. depth_from n ts) depth ∙ k.1)
+      ((outside, subst (λ n. HasNoFullStop n ts) (sym depth) k.0), ap (λ n. depth_from n ts) depth ∙ k.1)
 
 level_extra : (ts : List Token) → IsExtra ts → Level ts
 level_extra [] h = level_none
@@ -191,8 +191,8 @@ level_extra (t ∷ ts) (is, some, balanced) = level_flat t ts (flat_at is (refl,
   zero_more : (d : ℕ) → 0 + suc d ≡ suc d
   zero_more d = omega arith
 
-  level_here : (d : ℕ) → HasNoStop (0 + suc d) ts × (depth_from (0 + suc d) ts ≡ suc d) → HasNoStop (suc d) ts × (depth_from (suc d) ts ≡ suc d)
-  level_here d h = subst (λ n. HasNoStop n ts × (depth_from n ts ≡ suc d)) (zero_more d) h
+  level_here : (d : ℕ) → HasNoFullStop (0 + suc d) ts × (depth_from (0 + suc d) ts ≡ suc d) → HasNoFullStop (suc d) ts × (depth_from (suc d) ts ≡ suc d)
+  level_here d h = subst (λ n. HasNoFullStop n ts × (depth_from n ts ≡ suc d)) (zero_more d) h
 
 -- ---- names
 pub flat_name : (kind : NameKind) (text : Bytes) (t : Token) → IsName (record { kind = kind; text = text }) t → Flat t
@@ -216,10 +216,10 @@ abbrev single : Bytes → Token
 single file = record { kind = Single; text = file }
 
 -- a word, brackets round some tokens, and a full stop
-ends_bracketed : (word : Bytes) (ts : List Token) → Level ts → EndsAtStop 0 (lower word ∷ left_bracket ∷ ts ++ right_bracket ∷ full_stop ∷ [])
+ends_bracketed : (word : Bytes) (ts : List Token) → Level ts → EndsAtFullStop 0 (lower word ∷ left_bracket ∷ ts ++ right_bracket ∷ full_stop ∷ [])
 ends_bracketed word ts h = inr (
   λ s. not_stop s.1,
-  inr (λ s. other s.1, ends_append 1 ts (right_bracket ∷ full_stop ∷ []) (h 0).0 (subst (λ n. EndsAtStop n (right_bracket ∷ full_stop ∷ [])) (sym (h 0).1) (inr (inside 0 right_bracket, inl ((refl, refl), refl))))),
+  inr (λ s. other s.1, ends_append 1 ts (right_bracket ∷ full_stop ∷ []) (h 0).0 (subst (λ n. EndsAtFullStop n (right_bracket ∷ full_stop ∷ [])) (sym (h 0).1) (inr (inside 0 right_bracket, inl ((refl, refl), refl))))),
 ) where
   not_stop : lower word ≡ full_stop → ⊥
   not_stop e = cc (ap (λ (t : Token). t.kind) e)
@@ -228,25 +228,25 @@ ends_bracketed word ts h = inr (
   other e = cc (ap (λ (t : Token). opening_of t) e)
 
 -- the tokens of an item end with its full stop
-pub item_stops : (item : Item) (ts : List Token) → IsItem item ts → EndsAtStop 0 ts
+pub item_stops : (item : Item) (ts : List Token) → IsItem item ts → EndsAtFullStop 0 ts
 item_stops (clause_item c) ts (name, formula, extra, is_name, is_formula, is_extra, e) =
-    subst (λ x. EndsAtStop 0 x) (sym e)
+    subst (λ x. EndsAtFullStop 0 x) (sym e)
     (ends_bracketed (codes "cnf") (name ∷ comma ∷ lower c.role ∷ comma ∷ formula ++ extra)
     (level_flat name (comma ∷ lower c.role ∷ comma ∷ formula ++ extra) (flat_name c.name.kind c.name.text name is_name) (level_flat comma (lower c.role ∷ comma ∷ formula ++ extra) (refl, refl)
     (level_flat (lower c.role) (comma ∷ formula ++ extra) (refl, refl) (level_flat comma (formula ++ extra) (refl, refl)
     (level_append formula extra (level_formula c.literals formula is_formula) (level_extra extra is_extra)))))))
 item_stops (include_item file selection) ts (names, is_selection, e) =
-    subst (λ x. EndsAtStop 0 x) (sym e)
+    subst (λ x. EndsAtFullStop 0 x) (sym e)
     (ends_bracketed (codes "include") (single file ∷ names) (level_flat (single file) names (refl, refl) (level_selection selection names is_selection)))
 
 -- ---- tokens up to a full stop
-pub ends_goes : (d : ℕ) (ts : List Token) → EndsAtStop d ts → GoesToStop d ts
+pub ends_goes : (d : ℕ) (ts : List Token) → EndsAtFullStop d ts → GoesToFullStop d ts
 ends_goes d [] h = absurd h
-ends_goes d (t ∷ ts) (inl (s, e)) = (λ _. e, subst (λ x. GoesToStop (open_behind d t) x) (sym e) tt)
+ends_goes d (t ∷ ts) (inl (s, e)) = (λ _. e, subst (λ x. GoesToFullStop (open_behind d t) x) (sym e) tt)
 ends_goes d (t ∷ ts) (inr (s, h)) = (λ k. absurd (s k), ends_goes (open_behind d t) ts h)
 
 -- after tokens that end with one nothing stands in those that do
-pub ends_all : (d : ℕ) (ts us : List Token) → EndsAtStop d ts → EndsAtStop d (ts ++ us) → us ≡ []
+pub ends_all : (d : ℕ) (ts us : List Token) → EndsAtFullStop d ts → EndsAtFullStop d (ts ++ us) → us ≡ []
 ends_all d [] us h k = absurd h
 ends_all d (t ∷ ts) us (inl (s, e)) (inl (r, f)) = ap (λ x. x ++ us) (sym e) ∙ f
 ends_all d (t ∷ ts) us (inl (s, e)) (inr (r, k)) = absurd (r s)
@@ -254,7 +254,7 @@ ends_all d (t ∷ ts) us (inr (s, h)) (inl (r, f)) = absurd (s r)
 ends_all d (t ∷ ts) us (inr (s, h)) (inr (r, k)) = ends_all (open_behind d t) ts us h k
 
 -- and none stands in front of those without one
-pub ends_never : (d : ℕ) (ts us : List Token) → EndsAtStop d ts → HasNoStop d (ts ++ us) → ⊥
+pub ends_never : (d : ℕ) (ts us : List Token) → EndsAtFullStop d ts → HasNoFullStop d (ts ++ us) → ⊥
 ends_never d [] us h k = h
 ends_never d (t ∷ ts) us (inl (s, e)) k = k.0 s
 ends_never d (t ∷ ts) us (inr (s, h)) k = ends_never (open_behind d t) ts us h k.1
@@ -262,6 +262,6 @@ ends_never d (t ∷ ts) us (inr (s, h)) k = ends_never (open_behind d t) ts us h
 -- nothing but blanks is no item
 pub no_item_in_blanks : (text : Bytes) (item : Item) (rest : Bytes) → AreBlanks text → BeginsWithItem text item rest → ⊥
 no_item_in_blanks text item rest blanks h = by h.tokens h.begins (item_stops item h.tokens h.spelled) where
-  by : (ts : List Token) → Begins text ts rest → EndsAtStop 0 ts → ⊥
+  by : (ts : List Token) → Begins text ts rest → EndsAtFullStop 0 ts → ⊥
   by [] begins ends = ends
   by (t ∷ ts) begins ends = blanks_none text blanks t begins.0 begins.1

@@ -70,7 +70,7 @@ module _ (bytes : Bytes) (k : PatternKind) (l : Lexing) (h : IsLexing bytes 0 l)
   pattern_all p t = subst (IsPattern p) (sym (h.whole t.tokens t.consists t.nested).1) t.spelled
 
   -- where the tokens end with the bytes, what they spell is what the bytes are
-  pub whole_read : l.stop ≡ End → (result : Option Pattern) → ReadsWhole (tokens_of l.tokens.items) k result → ReadsPattern bytes k result
+  pub whole_read : l.why ≡ End → (result : Option Pattern) → ReadsWhole (tokens_of l.tokens.items) k result → ReadsPattern bytes k result
   whole_read e (Some p) w = record {
     of_kind = w.of_kind;
     text = record {
@@ -85,5 +85,5 @@ module _ (bytes : Bytes) (k : PatternKind) (l : Lexing) (h : IsLexing bytes 0 l)
   whole_read e None w = λ p o t. w p o (pattern_all p t)
 
   -- where they do not, the bytes are no pattern
-  pub stopped_read : (l.stop ≡ End → ⊥) → ReadsPattern bytes k None
+  pub stopped_read : (l.why ≡ End → ⊥) → ReadsPattern bytes k None
   stopped_read e = λ p o t. e (h.whole t.tokens t.consists t.nested).0

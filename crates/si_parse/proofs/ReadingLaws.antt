@@ -14,7 +14,7 @@ use Rattle.si_defs.proofs.ListLaws.{same_first}
 use Rattle.si_defs.proofs.TokenLaws.{begins_split}
 use Rattle.si_lex.specs.Lexemes.{token_of, tokens_of}
 use Rattle.si_lex.specs.Lexing.{IsLexing, AreItemTokens}
-use Rattle.si_lex.specs.FullStops.{HasNoStop, EndsAtStop}
+use Rattle.si_lex.specs.FullStops.{HasNoFullStop, EndsAtFullStop}
 use Rattle.si_lex.specs.declared.lexeme.Lexeme.{Lexeme}
 use Rattle.si_lex.specs.declared.lexing.Lexing.{Lexing}
 use Rattle.si_lex.specs.declared.lexing.TokensEnd.{TokensEnd}
@@ -81,14 +81,14 @@ module _ (bytes : Bytes) (at : ℕ) (tokens : List Lexeme) (start end : ℕ) (wh
   -- stop
   whole_item : (item : Item) (used others : List Token) → tokens_of tokens ≡ used ++ others → IsItem item used → (others ≡ []) × (why ≡ FullStop)
   whole_item item used others e is = by why refl where
-    ends : EndsAtStop 0 used
+    ends : EndsAtFullStop 0 used
     ends = item_stops item used is
 
     other : (why ≡ FullStop → ⊥) → ⊥
-    other f = ends_never 0 used others ends (subst (HasNoStop 0) e (h.no_stop f))
+    other f = ends_never 0 used others ends (subst (HasNoFullStop 0) e (h.no_stop f))
 
     by : (s : TokensEnd) → why ≡ s → (others ≡ []) × (why ≡ FullStop)
-    by FullStop f = (ends_all 0 used others ends (subst (EndsAtStop 0) e (h.stop f).0), f)
+    by FullStop f = (ends_all 0 used others ends (subst (EndsAtFullStop 0) e (h.stop f).0), f)
     by End f = absurd (other (λ g. let k : End ≡ FullStop = sym f ∙ g in cc))
     by Bad f = absurd (other (λ g. let k : Bad ≡ FullStop = sym f ∙ g in cc))
 
@@ -138,7 +138,7 @@ module _ (bytes : Bytes) (at : ℕ) (tokens : List Lexeme) (start end : ℕ) (wh
         word_on : (word : Bytes) → lower word ≡ Rattle.si_defs.specs.Grammar.full_stop → ⊥
         word_on word e = cc (ap (λ (t : Token). t.kind) e)
 
-        goes : Rattle.si_lex.specs.FullStops.GoesToStop 0 (lower f.0 ∷ left_bracket ∷ [])
+        goes : Rattle.si_lex.specs.FullStops.GoesToFullStop 0 (lower f.0 ∷ left_bracket ∷ [])
         goes = (λ s. absurd (word_on f.0 s.1), (λ s. refl, tt))
 
   -- where no item was read of the tokens, no item begins
@@ -240,7 +240,7 @@ module _ {X M : Type 0} (view : X → M) (Means : M → List Token → Type 0) (
   text_all m t = subst (Means m) (sym (h.whole t.tokens t.consists t.nested).1) t.spelled
 
   -- and the other way round, where the tokens end with the bytes
-  tokens_text : l.stop ≡ End → (m : M) → Means m (tokens_of l.tokens.items) → IsText (Means m) bytes
+  tokens_text : l.why ≡ End → (m : M) → Means m (tokens_of l.tokens.items) → IsText (Means m) bytes
   tokens_text e m spelled = record {
     tokens = tokens_of l.tokens.items;
     consists = record { rest = h.rest; begins = h.read.begins; blanks = h.read.blanks e };
@@ -248,10 +248,10 @@ module _ {X M : Type 0} (view : X → M) (Means : M → List Token → Type 0) (
     nested = h.read.nested;
   }
 
-  pub text_read : l.stop ≡ End → (result : Option X) → ReadsAll view Means (tokens_of l.tokens.items) result → ReadsText view Means bytes result
+  pub text_read : l.why ≡ End → (result : Option X) → ReadsAll view Means (tokens_of l.tokens.items) result → ReadsText view Means bytes result
   text_read e (Some x) r = (tokens_text e (view x) r.0, λ other t. r.1 other (text_all other t))
   text_read e None r = λ m t. r m (text_all m t)
 
   -- where they do not, the bytes are nothing of the kind
-  pub text_none : (l.stop ≡ End → ⊥) → ReadsText view Means bytes None
+  pub text_none : (l.why ≡ End → ⊥) → ReadsText view Means bytes None
   text_none e = λ m t. e (h.whole t.tokens t.consists t.nested).0

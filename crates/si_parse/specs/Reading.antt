@@ -38,7 +38,7 @@ IsFaultAt ts place result = ⊥
 -- what stands where the tokens begin with no item: nothing but blanks, or a fault
 abbrev pub IsNoItem : List Token → ℕ → TokensEnd → Read → Type 0
 IsNoItem [] start End result = result ≡ read.End
-IsNoItem ts start stop result = IsFaultAt ts start result
+IsNoItem ts start why result = IsFaultAt ts start result
 
 -- the bytes from a place up to an end are this item, and no other item begins there
 pub record IsItemRead (bytes : Bytes) (at : ℕ) (item : Item) (end : ℕ) : Type 0 where

@@ -36,7 +36,7 @@ pub fn next_item(alloc: Global, bytes: &[u8], at: usize) -> Result<Read, AllocEr
     ensures { IfOk result (IsRead bytes.now at) }
 {
     let lexing = lex_item(alloc, bytes, at)?;
-    let (start, end, stop) = (lexing.start, lexing.end, lexing.stop);
+    let (start, end, why) = (lexing.start, lexing.end, lexing.why);
     let tokens = lexing.tokens.as_slice();
     if let Some((clause, _)) = clause(alloc, tokens)? {
         return Ok(Read::Cnf(clause, end));
@@ -44,14 +44,14 @@ pub fn next_item(alloc: Global, bytes: &[u8], at: usize) -> Result<Read, AllocEr
     if let Some((include, _)) = include(alloc, tokens)? {
         return Ok(Read::Include(include.0, include.1, end));
     }
-    Ok(no_item(tokens, start, stop))
+    Ok(no_item(tokens, start, why))
 }
 
 /// What stands where the tokens begin with no item: nothing but blanks, or a fault.
-fn no_item(tokens: &[Lexeme], start: usize, stop: TokensEnd) -> Read
-    ensures { IsNoItem (tokens_of tokens.now) start stop result }
+fn no_item(tokens: &[Lexeme], start: usize, why: TokensEnd) -> Read
+    ensures { IsNoItem (tokens_of tokens.now) start why result }
 {
-    match stop {
+    match why {
         TokensEnd::End => {
             if tokens.is_empty() {
                 Read::End

@@ -37,7 +37,7 @@ pub fn read_pattern(
         (λ read. ReadsBackEntry bytes.now (option_map pattern_of read)) }
 {
     let lexing = lex(alloc, bytes, 0)?;
-    match lexing.stop {
+    match lexing.why {
         TokensEnd::End => whole_pattern(alloc, lexing.tokens.as_slice(), kind),
         _ => Ok(None),
     }

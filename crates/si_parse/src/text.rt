@@ -26,7 +26,7 @@ pub fn read_formula(alloc: Global, bytes: &[u8]) -> Result<Option<Literals>, All
         (λ read. IfSome read (λ ls. AreSoundLiterals (literals_of ls))) }
 {
     let lexing = lex(alloc, bytes, 0)?;
-    match lexing.stop {
+    match lexing.why {
         TokensEnd::End => whole_formula(alloc, lexing.tokens.as_slice()),
         _ => Ok(None),
     }
@@ -42,7 +42,7 @@ pub fn read_name(alloc: Global, bytes: &[u8]) -> Result<Option<Name>, AllocError
     ensures back { IfOk result (λ read. ReadsBackName bytes.now (option_map name_of read)) }
 {
     let lexing = lex(alloc, bytes, 0)?;
-    match lexing.stop {
+    match lexing.why {
         TokensEnd::End => whole_name(alloc, lexing.tokens.as_slice()),
         _ => Ok(None),
     }
@@ -58,7 +58,7 @@ pub fn read_file(alloc: Global, bytes: &[u8]) -> Result<Option<Text>, AllocError
     ensures back { IfOk result (ReadsBackFile bytes.now) }
 {
     let lexing = lex(alloc, bytes, 0)?;
-    match lexing.stop {
+    match lexing.why {
         TokensEnd::End => whole_file(alloc, lexing.tokens.as_slice()),
         _ => Ok(None),
     }

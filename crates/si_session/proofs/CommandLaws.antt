@@ -149,8 +149,8 @@ other_wrong w ts other none = (
 )
 
 -- no word of a command
-pub no_word : (t : Token) (ts : List Token) (stop : TokensEnd) → ((w : Word) → t ≡ lower (command_text w) → ⊥) → Commands (t ∷ ts) stop command.Wrong
-no_word t ts stop n = (
+pub no_word : (t : Token) (ts : List Token) (why : TokensEnd) → ((w : Word) → t ≡ lower (command_text w) → ⊥) → Commands (t ∷ ts) why command.Wrong
+no_word t ts why n = (
   λ f. n Add f.0,
   λ e s. some_tokens t ts s,
   λ e c h. n (command_word c) (command_is c t ts h).0,
@@ -180,8 +180,8 @@ add_read tokens x r none p sound =
     (refl, record { operands = tokens_of tokens; spelled = whole_means clause_of tokens tt x r none p; whole = refl }, sound)
 
 -- a formula of another language, whatever stands after it
-pub add_foreign : (ts : List Token) (stop : TokensEnd) → AreForeign ts → Commands (lower (command_text Add) ∷ ts) stop command.Foreign
-add_foreign ts stop f = ((refl, f), λ c h. let d = only Add c ts h in clause_not_foreign d.0 ts d.1 f)
+pub add_foreign : (ts : List Token) (why : TokensEnd) → AreForeign ts → Commands (lower (command_text Add) ∷ ts) why command.Foreign
+add_foreign ts why f = ((refl, f), λ c h. let d = only Add c ts h in clause_not_foreign d.0 ts d.1 f)
 
 -- ---- `remove`
 -- where no name was read of all the tokens
@@ -349,18 +349,18 @@ module _ (ts : List Token) where
 
 -- ---- where something else than blanks stands after the tokens
 -- they are no command, whatever they are
-pub unended_wrong : (ts : List Token) (stop : TokensEnd) → (AddForeign ts → ⊥) → (stop ≡ End → ⊥) → Commands ts stop command.Wrong
-unended_wrong ts stop own more = (own, λ e s. more e, λ e c h. more e)
+pub unended_wrong : (ts : List Token) (why : TokensEnd) → (AddForeign ts → ⊥) → (why ≡ End → ⊥) → Commands ts why command.Wrong
+unended_wrong ts why own more = (own, λ e s. more e, λ e c h. more e)
 
 -- ---- lines
 module _ (line : Bytes) (x : Lexing) (l : IsLexing line 0 x) where
   abbrev these : List Token
   these = tokens_of x.tokens.items
 
-  pub blank_tokens : AreBlanks line → (x.stop ≡ End) × (these ≡ [])
+  pub blank_tokens : AreBlanks line → (x.why ≡ End) × (these ≡ [])
   blank_tokens b = l.whole [] (record { rest = line; begins = refl; blanks = b }) (omega arith)
 
-  blank_line : x.stop ≡ End → these ≡ [] → AreBlanks line
+  blank_line : x.why ≡ End → these ≡ [] → AreBlanks line
   blank_line e none =
       let g : Begins line [] l.rest = subst (λ ts. Begins line ts l.rest) none l.read.begins in
       subst AreBlanks (sym g) (l.read.blanks e)
@@ -380,11 +380,11 @@ module _ (line : Bytes) (x : Lexing) (l : IsLexing line 0 x) where
         let s = begins_split (lower (command_text Add) ∷ lower w.0 ∷ left_bracket ∷ []) w.1 line l.rest (subst (λ ts. Begins line ts l.rest) front g) in
         (w.0, s.0, w.2, s.1)
 
-  tokens_mean : (c : Command) → x.stop ≡ End → IsCommand c these → Means c line
+  tokens_mean : (c : Command) → x.why ≡ End → IsCommand c these → Means c line
   tokens_mean c e h =
       record { tokens = these; consists = record { rest = l.rest; begins = l.read.begins; blanks = l.read.blanks e }; spelled = h; nested = l.read.nested }
 
-  line_means : (c : Command) → Means c line → (x.stop ≡ End) × IsCommand c these
+  line_means : (c : Command) → Means c line → (x.why ≡ End) × IsCommand c these
   line_means c m = let k = l.whole m.tokens m.consists m.nested in (k.0, subst (IsCommand c) (sym k.1) m.spelled)
 
   -- tokens that are a command
@@ -396,11 +396,11 @@ module _ (line : Bytes) (x : Lexing) (l : IsLexing line 0 x) where
   foreign_some f none = let g : AddForeign [] = subst AddForeign none f in g
 
   -- the line of a command that isn't read into a value of its own
-  pub line_performs : (c : Command) → x.stop ≡ End → IsCommand c these → IsPerformed c line
+  pub line_performs : (c : Command) → x.why ≡ End → IsCommand c these → IsPerformed c line
   line_performs c e h = (λ b. command_some c h (blank_tokens b).1, tokens_mean c e h)
 
   -- what its tokens are, the line is
-  pub line_read : (c : read.Command) → Commands these x.stop c → ReadsCommand line c
+  pub line_read : (c : read.Command) → Commands these x.why c → ReadsCommand line c
   line_read command.Blank h = blank_line h.0 h.1
   line_read command.Foreign h = (
     λ b. foreign_some h.0 (blank_tokens b).1,

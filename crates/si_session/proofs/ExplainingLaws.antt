@@ -31,7 +31,7 @@ module _ (k : Kept) (numbers : Numbering) (same : numbers ≡ k.numbers) (ts : L
   some_query = (read.0, is_read)
 
   -- and what is reported of that query is reported of the line
-  pub explained_line : (line : Bytes) (x : Lexing) (l : IsLexing line 0 x) (r : Relation) (e : Explained) → x.stop ≡ End
+  pub explained_line : (line : Bytes) (x : Lexing) (l : IsLexing line 0 x) (r : Relation) (e : Explained) → x.why ≡ End
       → tokens_of x.tokens.items ≡ lower (command_text Explain) ∷ lower (relation_text r) ∷ lower (kind_word kind) ∷ ts → ExplainsFlat k r literal q e → IsExplained k line e
   explained_line line x l r e end these reported =
       (r, read.0, line_performs line x l (explain r read.0) end (explains_query (tokens_of x.tokens.items) ts r kind read.0 these read.1), reported read.0 is_read)

@@ -59,28 +59,28 @@ AddForeign (t ∷ ts) = (t ≡ lower (command_text Add)) × AreForeign ts
 
 -- the command that they are, by what stands after them
 abbrev pub Commands : List Token → TokensEnd → Command → Type 0
-Commands ts stop command.Blank = (stop ≡ End) × (ts ≡ [])
-Commands ts stop command.Foreign = AddForeign ts × ((c : defs.Command) → IsCommand c ts → ⊥)
-Commands ts stop command.Wrong =
-    (AddForeign ts → ⊥) × (stop ≡ End → ts ≡ [] → ⊥)
-    × (stop ≡ End → (c : defs.Command) → IsCommand c ts → ⊥)
-Commands ts stop (command.Add c) =
-    (stop ≡ End) × IsCommand (defs.add (clause_of c)) ts × IsSoundClause (clause_of c)
-Commands ts stop (command.Load file) = (stop ≡ End) × IsCommand (defs.load file) ts
-Commands ts stop (command.Remove n) = (stop ≡ End) × IsCommand (defs.remove (name_of n)) ts
-Commands ts stop command.Stats = (stop ≡ End) × IsCommand defs.stats ts
-Commands ts stop command.Tree = (stop ≡ End) × IsCommand defs.tree ts
-Commands ts stop (command.Explain r p) =
-    (stop ≡ End) × IsCommand (defs.explain r (pattern_of p)) ts × IsSoundPattern (pattern_of p)
-Commands ts stop (command.Sample start count) =
-    (stop ≡ End) × IsCommand (defs.sample start count) ts × AllowsSample start count
-Commands ts stop (command.Query r p) =
-    (stop ≡ End) × IsCommand (defs.query r (pattern_of p)) ts × IsSoundPattern (pattern_of p)
-Commands ts stop (command.Subsumers ls) =
-    (stop ≡ End) × IsCommand (defs.subsumers (map literal_of ls)) ts
+Commands ts why command.Blank = (why ≡ End) × (ts ≡ [])
+Commands ts why command.Foreign = AddForeign ts × ((c : defs.Command) → IsCommand c ts → ⊥)
+Commands ts why command.Wrong =
+    (AddForeign ts → ⊥) × (why ≡ End → ts ≡ [] → ⊥)
+    × (why ≡ End → (c : defs.Command) → IsCommand c ts → ⊥)
+Commands ts why (command.Add c) =
+    (why ≡ End) × IsCommand (defs.add (clause_of c)) ts × IsSoundClause (clause_of c)
+Commands ts why (command.Load file) = (why ≡ End) × IsCommand (defs.load file) ts
+Commands ts why (command.Remove n) = (why ≡ End) × IsCommand (defs.remove (name_of n)) ts
+Commands ts why command.Stats = (why ≡ End) × IsCommand defs.stats ts
+Commands ts why command.Tree = (why ≡ End) × IsCommand defs.tree ts
+Commands ts why (command.Explain r p) =
+    (why ≡ End) × IsCommand (defs.explain r (pattern_of p)) ts × IsSoundPattern (pattern_of p)
+Commands ts why (command.Sample start count) =
+    (why ≡ End) × IsCommand (defs.sample start count) ts × AllowsSample start count
+Commands ts why (command.Query r p) =
+    (why ≡ End) × IsCommand (defs.query r (pattern_of p)) ts × IsSoundPattern (pattern_of p)
+Commands ts why (command.Subsumers ls) =
+    (why ≡ End) × IsCommand (defs.subsumers (map literal_of ls)) ts
     × AreSoundLiterals (map literal_of ls)
-Commands ts stop (command.Subsumed ls) =
-    (stop ≡ End) × IsCommand (defs.subsumed (map literal_of ls)) ts
+Commands ts why (command.Subsumed ls) =
+    (why ≡ End) × IsCommand (defs.subsumed (map literal_of ls)) ts
     × AreSoundLiterals (map literal_of ls)
 
 -- the word of a kind of pattern

@@ -43,7 +43,7 @@ fn added(alloc: Global, line: &[u8]) -> Result<Option<Clause>, AllocError>
         return Ok(None);
     }
     let item = lex_item(alloc, line, word.end)?;
-    let TokensEnd::FullStop = item.stop else {
+    let TokensEnd::FullStop = item.why else {
         return Ok(None);
     };
     let Lexed::End = next_token(alloc, line, item.end)? else {

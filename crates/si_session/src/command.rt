@@ -68,16 +68,16 @@ pub fn read_command(alloc: Global, line: &[u8]) -> Result<Command, AllocError>
         return Ok(Command::Add(clause));
     }
     let lexing = lex(alloc, line, 0)?;
-    command_of(alloc, lexing.tokens.as_slice(), lexing.stop)
+    command_of(alloc, lexing.tokens.as_slice(), lexing.why)
 }
 
 /// The command that the tokens of a line are, by what stands after them.
-fn command_of(alloc: Global, tokens: &[Lexeme<'_>], stop: TokensEnd) -> Result<Command, AllocError>
+fn command_of(alloc: Global, tokens: &[Lexeme<'_>], why: TokensEnd) -> Result<Command, AllocError>
     requires { length tokens.now ≤ MOST_BYTES }
-    ensures read { IfOk result (Commands (tokens_of tokens.now) stop) }
+    ensures read { IfOk result (Commands (tokens_of tokens.now) why) }
     ensures refused { OnErr result (tokens_of tokens.now ≡ [] → ⊥) }
 {
-    if stop != TokensEnd::End {
+    if why != TokensEnd::End {
         return Ok(unended_command(tokens));
     }
     let Some((first, rest)) = tokens.split_first() else {
@@ -101,8 +101,8 @@ fn command_of(alloc: Global, tokens: &[Lexeme<'_>], stop: TokensEnd) -> Result<C
 /// The command that the tokens of a line are where something else than blanks stands after them:
 /// none, though they may add a formula of another language.
 fn unended_command(tokens: &[Lexeme<'_>]) -> Command
-    ensures { (stop : TokensEnd) → (stop ≡ End → ⊥)
-        → Commands (tokens_of tokens.now) stop result }
+    ensures { (why : TokensEnd) → (why ≡ End → ⊥)
+        → Commands (tokens_of tokens.now) why result }
 {
     let Some((first, rest)) = tokens.split_first() else {
         return Command::Wrong;

@@ -57,7 +57,7 @@ fn explained(
     ensures { IfOk result (λ found. IfSome found (IsExplained index.now line.now)) }
 {
     let lexing = lex(alloc, line, 0)?;
-    let TokensEnd::End = lexing.stop else {
+    let TokensEnd::End = lexing.why else {
         return Ok(None);
     };
     let Some(question) = question_of(lexing.tokens.as_slice()) else {

@@ -155,7 +155,7 @@ fn no_tokens(rt: HostRuntime) -> Result<(), Fail> {
 }
 
 fn assert_length(rt: &impl Abort, lexing: &Lexing, due: (usize, TokensEnd)) {
-    assert_eq!(rt; (lexing.tokens.len(), lexing.stop), due);
+    assert_eq!(rt; (lexing.tokens.len(), lexing.why), due);
 }
 
 /// How many tokens the list of a whole text has, and where it stops.
@@ -174,7 +174,7 @@ fn assert_list(
 type Item = (usize, usize, usize, TokensEnd);
 
 fn assert_places(rt: &impl Abort, item: &Lexing, due: Item) {
-    let seen = (item.tokens.len(), item.start, item.end, item.stop);
+    let seen = (item.tokens.len(), item.start, item.end, item.why);
     assert_eq!(rt; seen, due);
 }
 

@@ -2,7 +2,7 @@ use Rattle.std.proofs.Common.{◌≡◌, ◌∷◌, ◌++◌, [], ◌+◌, ◌�
 use Rattle.std.proofs.lemmas.Bool.{false≢true}
 use Rattle.si_defs.specs.declared.TheConstants.{DEEPEST_NESTING}
 use Rattle.si_lex.specs.Annotations.{BeginsClause, IsComma, IsBriefUpTo}
-use Rattle.si_lex.specs.FullStops.{IsStop}
+use Rattle.si_lex.specs.FullStops.{IsFullStop}
 use Rattle.si_lex.specs.Lexemes.{token_of, tokens_of}
 use Rattle.si_lex.specs.declared.lexing.Lexing.{Lexing}
 use Rattle.si_lex.specs.declared.lexing.TokensEnd.TheVariants.{End, Bad, FullStop}
@@ -19,22 +19,22 @@ loop-place-init c =
 
 pub returns-in_default-clause-read : goal.returns-in_default-clause-read
 returns-in_default-clause-read c =
-    let l : Lexing = record { tokens = c.loop-place.tokens; start = c.skip_blanks-start.result; end = c.loop-place.place; stop = Bad } in
+    let l : Lexing = record { tokens = c.loop-place.tokens; start = c.skip_blanks-start.result; end = c.loop-place.place; why = Bad } in
     subst (IsBriefUpTo c.args.item c.args.bytes.now c.args.at) (sym c.new.ensures)
     (brief_bad c.args.item c.loop-place.tried c.args.bytes.now c.args.at l c.loop-place.depth c.loop-place.invariant c.loop-place-test.true c.in_default.ensures refl)
 
 pub returns-clause-read : goal.returns-clause-read
 returns-clause-read c =
-    let l : Lexing = record { tokens = c.loop-place.tokens; start = c.skip_blanks-start.result; end = c.loop-place.place; stop = End } in
+    let l : Lexing = record { tokens = c.loop-place.tokens; start = c.skip_blanks-start.result; end = c.loop-place.place; why = End } in
     subst (IsBriefUpTo c.args.item c.args.bytes.now c.args.at) (sym c.new-2.ensures)
     (brief_end c.args.item c.loop-place.tried c.args.bytes.now c.args.at l c.loop-place.depth c.loop-place.invariant c.loop-place-test.false refl)
 
-pub returns-then-stops-clause-read : goal.returns-then-stops-clause-read
-returns-then-stops-clause-read c =
-    let l : Lexing = record { tokens = c.push-in-loop-place.new.self; start = c.skip_blanks-start.result; end = c.loop-place.place + length c.in-Some.lexeme.spelling.now; stop = FullStop } in
-    subst (IsBriefUpTo c.args.item c.args.bytes.now c.args.at) (sym c.new-then-stops.ensures)
+pub returns-then-full_stop-clause-read : goal.returns-then-full_stop-clause-read
+returns-then-full_stop-clause-read c =
+    let l : Lexing = record { tokens = c.push-in-loop-place.new.self; start = c.skip_blanks-start.result; end = c.loop-place.place + length c.in-Some.lexeme.spelling.now; why = FullStop } in
+    subst (IsBriefUpTo c.args.item c.args.bytes.now c.args.at) (sym c.new-then-full_stop.ensures)
     (brief_stop c.args.item c.loop-place.tried c.args.bytes.now c.args.at l c.loop-place.tokens.items c.loop-place.depth c.loop-place.place c.in-Some.lexeme c.loop-place.invariant c.if-item.true
-    c.loop-place-test.true c.in-Some.ensures.stands (subst (λ d. d ≤ DEEPEST_NESTING) c.in-Some.ensures.opened c.in-Some.ensures.shallow) (c.is_stop-stops.ensures.0 c.if-stops.true)
+    c.loop-place-test.true c.in-Some.ensures.stands (subst (λ d. d ≤ DEEPEST_NESTING) c.in-Some.ensures.opened c.in-Some.ensures.shallow) (c.is_full_stop-full_stop.ensures.0 c.if-full_stop.true)
     c.in_ok-push-2.ensures.items refl refl)
 
 pub loop-place-preserved-in-Some-past_annotations : goal.loop-place-preserved-in-Some-past_annotations
@@ -51,8 +51,8 @@ loop-place-preserved c =
     let start = c.skip_blanks-start.result in
     let lexeme = c.in-Some.lexeme in
     let tried = c.if-not-tried.tried in
-    let goes_on : IsTrue c.args.item → IsStop c.loop-place.depth (token_of lexeme) → ⊥ =
-    λ i s. elim c.else-item.either [ inl e ↦ false≢true (sym e.1 ∙ c.is_stop-stops.ensures.1 s) | inr e ↦ false≢true (sym e ∙ i) ] in
+    let goes_on : IsTrue c.args.item → IsFullStop c.loop-place.depth (token_of lexeme) → ⊥ =
+    λ i s. elim c.else-item.either [ inl e ↦ false≢true (sym e.1 ∙ c.is_full_stop-full_stop.ensures.1 s) | inr e ↦ false≢true (sym e ∙ i) ] in
     let not_yet : tried ≡ false → (c.loop-place.tried ≡ false) × (6 ≤ length c.loop-place.tokens.items → IsComma c.loop-place.depth (token_of lexeme) → ⊥) =
     elim c.if-not-tried.branch [
       | then-not-tried+then-ends_formula+in_default-past_annotations w ↦ λ e. absurd (false≢true (sym e ∙ w.tried-is))

@@ -19,7 +19,7 @@ returns-in-Some c =
     let l = c.in_ok-lexing.lexing in
     let h = c.in_ok-lexing.ensures.read in
     let rest = tokens_of c.in-Some.field-0-1.now in (
-      clause_read c.args.bytes.now c.args.at h.all l.start l.end l.stop h.read (clause_of c.in-Some.clause) rest
+      clause_read c.args.bytes.now c.args.at h.all l.start l.end l.why h.read (clause_of c.in-Some.clause) rest
           (clause_of_all h.brief c.as_slice-tokens.ensures.value (reads_some clause_of c.as_slice-tokens.result.now c.in_ok-clause.ensures.read c.in-Some.is)),
       subst (IfFound (λ x. IsSoundClause (clause_of x))) c.in-Some.is c.in_ok-clause.ensures.sound,
     )
@@ -28,7 +28,7 @@ pub returns-in-Some-2 : goal.returns-in-Some-2
 returns-in-Some-2 c =
     let l = c.in_ok-lexing.lexing in
     let h = c.in_ok-lexing.ensures.read in
-    include_read c.args.bytes.now c.args.at h.all l.start l.end l.stop h.read (include_of c.in-Some-2.include) (tokens_of c.in-Some-2.field-0-1.now)
+    include_read c.args.bytes.now c.args.at h.all l.start l.end l.why h.read (include_of c.in-Some-2.include) (tokens_of c.in-Some-2.field-0-1.now)
     (include_of_all h.brief c.as_slice-tokens.ensures.value (reads_some include_of c.as_slice-tokens.result.now c.in_ok-include.ensures c.in-Some-2.is))
 
 pub returns : goal.returns
@@ -37,4 +37,4 @@ returns c =
     let h = c.in_ok-lexing.ensures.read in
     let p = clause_of_all h.brief c.as_slice-tokens.ensures.value (reads_none clause_of c.as_slice-tokens.result.now c.in_ok-clause.ensures.read c.in_default.is) in
     let q = include_of_all h.brief c.as_slice-tokens.ensures.value (reads_none include_of c.as_slice-tokens.result.now c.in_ok-include.ensures c.in_default-2.is) in
-    no_item_read c.args.bytes.now c.args.at h.all l.start l.end l.stop h.read p q c.no_item.result (no_item_of_all h.brief c.as_slice-tokens.ensures.value l.start l.stop c.no_item.result c.no_item.ensures)
+    no_item_read c.args.bytes.now c.args.at h.all l.start l.end l.why h.read p q c.no_item.result (no_item_of_all h.brief c.as_slice-tokens.ensures.value l.start l.why c.no_item.result c.no_item.ensures)

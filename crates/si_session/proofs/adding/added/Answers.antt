@@ -23,7 +23,7 @@ returns-in-Some c =
     let h = c.in_ok-item.ensures.read in
     let first : IsNextToken line 0 word = subst (IsNext line 0) c.in-Token.is c.in_ok-word.ensures.next in
     let reads = clause_of_all h.brief c.as_slice.ensures.value (reads_some clause_of c.as_slice.result.now c.in_ok-clause.ensures.read c.in-Some.is) in
-    let item = clause_read line word.end h.all l.start l.end l.stop h.read (clause_of c.in-Some.clause) (tokens_of c.in-Some.field-0-1.now) reads in
+    let item = clause_read line word.end h.all l.start l.end l.why h.read (clause_of c.in-Some.clause) (tokens_of c.in-Some.field-0-1.now) reads in
     let blanks = subst (IsNext line l.end) c.in-End.is c.in_ok-next_token.ensures.next in (
       (first.more, added_line line word c.in-Some.clause l.end first (search rules) item blanks),
       subst (IfFound (λ x. IsSoundClause (clause_of x))) c.in-Some.is c.in_ok-clause.ensures.sound,

@@ -15,7 +15,7 @@ front tokens t rest w e h = sym (ap tokens_of e ∙ ap (λ x. x ∷ tokens_of re
 
 pub returns-in-Some-Add-clause-read : goal.returns-in-Some-Add-clause-read
 returns-in-Some-Add-clause-read c =
-    let end : c.args.stop ≡ End = search rules in
+    let end : c.args.why ≡ End = search rules in
     subst (λ s. IfOk c.add_command.result (Commands (tokens_of c.args.tokens.now) s)) (sym end)
     (subst (λ ts. IfOk c.add_command.result (Commands ts End))
     (front c.args.tokens.now c.in-Some.first.now c.in-Some.rest.now _ c.in-Some.ensures.cases.0
@@ -23,7 +23,7 @@ returns-in-Some-Add-clause-read c =
 
 pub returns-in-Some-Load-clause-read : goal.returns-in-Some-Load-clause-read
 returns-in-Some-Load-clause-read c =
-    let end : c.args.stop ≡ End = search rules in
+    let end : c.args.why ≡ End = search rules in
     subst (λ s. IfOk c.load_command.result (Commands (tokens_of c.args.tokens.now) s)) (sym end)
     (subst (λ ts. IfOk c.load_command.result (Commands ts End))
     (front c.args.tokens.now c.in-Some.first.now c.in-Some.rest.now _ c.in-Some.ensures.cases.0
@@ -31,7 +31,7 @@ returns-in-Some-Load-clause-read c =
 
 pub returns-in-Some-Remove-clause-read : goal.returns-in-Some-Remove-clause-read
 returns-in-Some-Remove-clause-read c =
-    let end : c.args.stop ≡ End = search rules in
+    let end : c.args.why ≡ End = search rules in
     subst (λ s. IfOk c.remove_command.result (Commands (tokens_of c.args.tokens.now) s)) (sym end)
     (subst (λ ts. IfOk c.remove_command.result (Commands ts End))
     (front c.args.tokens.now c.in-Some.first.now c.in-Some.rest.now _ c.in-Some.ensures.cases.0
@@ -39,7 +39,7 @@ returns-in-Some-Remove-clause-read c =
 
 pub returns-in-Some-Stats-clause-read : goal.returns-in-Some-Stats-clause-read
 returns-in-Some-Stats-clause-read c =
-    let end : c.args.stop ≡ End = search rules in
+    let end : c.args.why ≡ End = search rules in
     subst (λ s. Commands (tokens_of c.args.tokens.now) s c.stats_command.result) (sym end)
     (subst (λ ts. Commands ts End c.stats_command.result)
     (front c.args.tokens.now c.in-Some.first.now c.in-Some.rest.now _ c.in-Some.ensures.cases.0
@@ -47,7 +47,7 @@ returns-in-Some-Stats-clause-read c =
 
 pub returns-in-Some-Sample-clause-read : goal.returns-in-Some-Sample-clause-read
 returns-in-Some-Sample-clause-read c =
-    let end : c.args.stop ≡ End = search rules in
+    let end : c.args.why ≡ End = search rules in
     subst (λ s. Commands (tokens_of c.args.tokens.now) s c.sample_command.result) (sym end)
     (subst (λ ts. Commands ts End c.sample_command.result)
     (front c.args.tokens.now c.in-Some.first.now c.in-Some.rest.now _ c.in-Some.ensures.cases.0
@@ -55,7 +55,7 @@ returns-in-Some-Sample-clause-read c =
 
 pub returns-in-Some-Ask-clause-read : goal.returns-in-Some-Ask-clause-read
 returns-in-Some-Ask-clause-read c =
-    let end : c.args.stop ≡ End = search rules in
+    let end : c.args.why ≡ End = search rules in
     subst (λ s. IfOk c.query_command.result (Commands (tokens_of c.args.tokens.now) s)) (sym end)
     (subst (λ ts. IfOk c.query_command.result (Commands ts End))
     (front c.args.tokens.now c.in-Some.first.now c.in-Some.rest.now _ c.in-Some.ensures.cases.0
@@ -63,14 +63,14 @@ returns-in-Some-Ask-clause-read c =
 
 pub returns-in-None-clause-read : goal.returns-in-None-clause-read
 returns-in-None-clause-read c =
-    let end : c.args.stop ≡ End = search rules in
+    let end : c.args.why ≡ End = search rules in
     subst (λ s. Commands (tokens_of c.args.tokens.now) s command.Wrong) (sym end)
     (subst (λ ts. Commands ts End command.Wrong) (sym (ap tokens_of c.in-Some.ensures.cases.0))
     (no_word (token_of c.in-Some.first.now) (tokens_of c.in-Some.rest.now) End c.in-None.ensures.none))
 
 pub returns-in-Some-Subsumers-clause-read : goal.returns-in-Some-Subsumers-clause-read
 returns-in-Some-Subsumers-clause-read c =
-    let end : c.args.stop ≡ End = search rules in
+    let end : c.args.why ≡ End = search rules in
     subst (λ s. IfOk c.subsumers_command.result (Commands (tokens_of c.args.tokens.now) s)) (sym end)
     (subst (λ ts. IfOk c.subsumers_command.result (Commands ts End))
     (front c.args.tokens.now c.in-Some.first.now c.in-Some.rest.now _ c.in-Some.ensures.cases.0
@@ -78,7 +78,7 @@ returns-in-Some-Subsumers-clause-read c =
 
 pub returns-in-Some-Subsumed-clause-read : goal.returns-in-Some-Subsumed-clause-read
 returns-in-Some-Subsumed-clause-read c =
-    let end : c.args.stop ≡ End = search rules in
+    let end : c.args.why ≡ End = search rules in
     subst (λ s. IfOk c.subsumed_command.result (Commands (tokens_of c.args.tokens.now) s)) (sym end)
     (subst (λ ts. IfOk c.subsumed_command.result (Commands ts End))
     (front c.args.tokens.now c.in-Some.first.now c.in-Some.rest.now _ c.in-Some.ensures.cases.0
@@ -86,7 +86,7 @@ returns-in-Some-Subsumed-clause-read c =
 
 pub returns-in-Some-Tree-clause-read : goal.returns-in-Some-Tree-clause-read
 returns-in-Some-Tree-clause-read c =
-    let end : c.args.stop ≡ End = search rules in
+    let end : c.args.why ≡ End = search rules in
     subst (λ s. Commands (tokens_of c.args.tokens.now) s c.tree_command.result) (sym end)
     (subst (λ ts. Commands ts End c.tree_command.result)
     (front c.args.tokens.now c.in-Some.first.now c.in-Some.rest.now _ c.in-Some.ensures.cases.0
@@ -94,7 +94,7 @@ returns-in-Some-Tree-clause-read c =
 
 pub returns-in-Some-Explain-clause-read : goal.returns-in-Some-Explain-clause-read
 returns-in-Some-Explain-clause-read c =
-    let end : c.args.stop ≡ End = search rules in
+    let end : c.args.why ≡ End = search rules in
     subst (λ s. IfOk c.explain_command.result (Commands (tokens_of c.args.tokens.now) s)) (sym end)
     (subst (λ ts. IfOk c.explain_command.result (Commands ts End))
     (front c.args.tokens.now c.in-Some.first.now c.in-Some.rest.now _ c.in-Some.ensures.cases.0
@@ -102,5 +102,5 @@ returns-in-Some-Explain-clause-read c =
 
 pub returns-then-ne-clause-read : goal.returns-then-ne-clause-read
 returns-then-ne-clause-read c =
-    let more : c.args.stop ≡ End → ⊥ = search rules in
-    c.unended_command.ensures c.args.stop more
+    let more : c.args.why ≡ End → ⊥ = search rules in
+    c.unended_command.ensures c.args.why more

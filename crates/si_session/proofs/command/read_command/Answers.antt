@@ -14,7 +14,7 @@ pub returns-clause-read : goal.returns-clause-read
 returns-clause-read c =
     let lexing = c.in_ok-lexing.lexing in
     IfOk-weaker c.command_of.result _ _
-    (λ command h. line_read c.args.line.now lexing c.in_ok-lexing.ensures.read command (subst (λ ts. Commands (tokens_of ts) lexing.stop command) c.as_slice.ensures.value h))
+    (λ command h. line_read c.args.line.now lexing c.in_ok-lexing.ensures.read command (subst (λ ts. Commands (tokens_of ts) lexing.why command) c.as_slice.ensures.value h))
     c.command_of.ensures.read
 
 pub returns-clause-refused : goal.returns-clause-refused

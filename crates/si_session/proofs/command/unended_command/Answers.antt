@@ -6,6 +6,6 @@ use Rattle.si_session.proofs.CommandLaws.{no_word}
 use Rattle.si_session.proofs.command.unended_command.Goals as goal
 
 pub returns-in-None : goal.returns-in-None
-returns-in-None c stop more =
-    subst (λ ts. Commands ts stop command.Wrong) (sym (ap tokens_of c.in-Some.ensures.cases.0))
-    (no_word (token_of c.in-Some.first.now) (tokens_of c.in-Some.rest.now) stop c.in-None.ensures.none)
+returns-in-None c why more =
+    subst (λ ts. Commands ts why command.Wrong) (sym (ap tokens_of c.in-Some.ensures.cases.0))
+    (no_word (token_of c.in-Some.first.now) (tokens_of c.in-Some.rest.now) why c.in-None.ensures.none)

@@ -13,7 +13,7 @@ use Rattle.si_unify.specs.declared.spots.SpotPair.{SpotPair}
 use Rattle.si_unify.specs.declared.spots.Question.{Question}
 use Rattle.si_unify.specs.Solving.{Pairs, slot_count, AreInRange, Equalizes, IsSolvedBy, IsAcyclic, IsBinding, IsSolution, IsCommon, HasSolved}
 use Rattle.si_unify.specs.Spots.{text, IsAt, left_spot, right_spot, StandsAt, IsSubterm, at_spot, IsLegal, MakesEqual, MakesEqualUpTo, HasMet, HasClosed, HasAnswered}
-use Rattle.si_unify.specs.Circles.{IsTold}
+use Rattle.si_unify.specs.Circles.{SaysTriangular}
 use Rattle.si_unify.proofs.Places.{whole_at}
 use Rattle.si_unify.proofs.Pieces.{handed_on}
 use Rattle.si_unify.proofs.Comparing.{equal_before, solved_before}
@@ -108,7 +108,7 @@ module _ (q : Question) (old mid : Pairs) (first keys : List SpotPair) (empty : 
           )
           )
 
-      pub answered : (b : Bool) → IsTold q.slots new b → HasAnswered q old new b
+      pub answered : (b : Bool) → SaysTriangular q.slots new b → HasAnswered q old new b
       answered true told = (
         closed.0.bindings,
         told.0,

@@ -21,7 +21,7 @@ use Rattle.si_unify.specs.declared.circles.Visit.{Visit}
 use Rattle.si_unify.specs.declared.circles.Visit.TheVariants.{Enter}
 use Rattle.si_unify.specs.Solving.{Pairs, slot_count, slot_of, IsTriangularBy, IsAcyclic, RanksBelow, IsBinding}
 use Rattle.si_unify.specs.Spots.{cell_slot}
-use Rattle.si_unify.specs.Circles.{if_value, if_bound, with_slot, bound_slots, below_value, enter_each, visit_slot, visit_slots, IsDone, AreCovered, RanksUnder, ComeDown, slots_below, AreRanked, IsSearching, HasSearched, AreEntries, IsResolved, AreResolved, IsTold}
+use Rattle.si_unify.specs.Circles.{if_value, if_bound, with_slot, bound_slots, below_value, enter_each, visit_slot, visit_slots, IsDone, AreCovered, RanksUnder, ComeDown, slots_below, AreRanked, IsSearching, HasSearched, AreEntries, IsResolved, AreResolved, SaysTriangular}
 use Rattle.si_unify.proofs.StateLaws.{new_at}
 use Rattle.si_unify.proofs.Searching.{ranks_below_cell}
 use Rattle.si_unify.specs.States.{AreNew}
@@ -266,7 +266,7 @@ pub search_tells :
     → AreEntries pairs mark (length pairs) visits
     → IsAcyclic slots (take mark pairs)
     → HasSearched slots pairs states new visits b
-    → IsTold slots pairs b
+    → SaysTriangular slots pairs b
 search_tells slots pairs states new visits mark false e old h = λ t. h t.0 t.1
 search_tells slots pairs states new visits mark true e old h = (
   triangular_behind slots pairs (IsDone new) (done_tested new) h.0.ordered old.0 mark e.distinct old.1
@@ -305,7 +305,7 @@ pub resolved_tells :
     (slots : Slots) (pairs : Pairs) (mark : ℕ)
     → AreResolved slots pairs mark (length pairs)
     → IsAcyclic slots (take mark pairs)
-    → IsTold slots pairs true
+    → SaysTriangular slots pairs true
 resolved_tells slots pairs mark h old = (
   triangular_behind slots pairs (IsResolved slots pairs) (resolved_tested slots pairs) (resolved_ranked slots pairs) old.0 mark h.distinct old.1
       (all_behind (IsResolved slots pairs) pairs mark h.resolved),

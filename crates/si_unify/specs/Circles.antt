@@ -186,6 +186,6 @@ pub record AreResolved (slots : Slots) (pairs : Pairs) (mark n : ℕ) : Type 0 w
   pub distinct : HasDistinctSlots pairs
 
 -- whether the list is triangular; its slots are distinct
-abbrev pub IsTold : Slots → Pairs → Bool → Type 0
-IsTold slots pairs true = IsAcyclic slots pairs × HasDistinctSlots pairs
-IsTold slots pairs false = IsAcyclic slots pairs → ⊥
+abbrev pub SaysTriangular : Slots → Pairs → Bool → Type 0
+SaysTriangular slots pairs true = IsAcyclic slots pairs × HasDistinctSlots pairs
+SaysTriangular slots pairs false = IsAcyclic slots pairs → ⊥

@@ -2,7 +2,7 @@
 ghost use Rattle.std.specs.Prelude.{◌≡◌, ℕ, ◌+◌, ◌*◌, ◌<◌, ◌≤◌, true, length, take, reverse, ◌++◌, ◌∷◌, [], IfOk, OnOk, OnErr, vec_capacity};
 ghost use Rattle.std.specs.List.{AllByRecursion};
 ghost use Rattle.si_trail.specs.Trails.{HasDistinctSlots};
-ghost use Rattle.si_unify.specs.Circles.{if_bound, slots_below, visits_of, AreEntered, AreEntries, AreResolved, IsSearching, HasSearched, HasDone, VisitsLackRoom, AreNoMore, IsTold};
+ghost use Rattle.si_unify.specs.Circles.{if_bound, slots_below, visits_of, AreEntered, AreEntries, AreResolved, IsSearching, HasSearched, HasDone, VisitsLackRoom, AreNoMore, SaysTriangular};
 ghost use Rattle.si_unify.specs.Rooms.{AreNoLongerThan};
 ghost use Rattle.si_unify.specs.Solving.{slot_count, IsAcyclic, IsBinding};
 ghost use Rattle.si_unify.specs.States.{AreNew};
@@ -194,7 +194,7 @@ pub(crate) fn is_triangular<'a>(
     requires bindings { AllByRecursion (IsBinding slots.now) trail.now.pairs }
     requires within { mark ≤ length trail.now.pairs }
     requires before { IsAcyclic slots.now (take mark trail.now.pairs) }
-    ensures told { IfOk result (IsTold slots.now trail.now.pairs) }
+    ensures triangular { IfOk result (SaysTriangular slots.now trail.now.pairs) }
     ensures full { OnErr result ((n : ℕ) → AreNoLongerThan n trail.now.pairs
         → slot_count slots.now ≤ states.old.room
         → slot_count slots.now * (n + 2) ≤ vec_capacity visits.old → ⊥) }

@@ -9,12 +9,12 @@ use Rattle.std.proofs.lemmas.Result.{IfOk-weaker}
 use Rattle.si_unify.proofs.Triangular.{search_begins, search_tells, resolved_tells}
 use Rattle.si_unify.proofs.circles.is_triangular.Goals as goal
 
-pub returns-clause-told : goal.returns-clause-told
-returns-clause-told c =
+pub returns-clause-triangular : goal.returns-clause-triangular
+returns-clause-triangular c =
     IfOk-weaker c.search.result _ _ (λ b h. search_tells _ _ _ _ _ _ b c.in_ok-enter_bound.ensures.entered c.requires.before h) c.search.ensures.searched
 
-pub returns-then-are_resolved-clause-told : goal.returns-then-are_resolved-clause-told
-returns-then-are_resolved-clause-told c = resolved_tells _ _ c.args.mark (c.are_resolved.ensures c.if-are_resolved.true) c.requires.before
+pub returns-then-are_resolved-clause-triangular : goal.returns-then-are_resolved-clause-triangular
+returns-then-are_resolved-clause-triangular c = resolved_tells _ _ c.args.mark (c.are_resolved.ensures c.if-are_resolved.true) c.requires.before
 
 pub search-requires : goal.search-requires
 search-requires c =

@@ -4,7 +4,7 @@ use Rattle.std.specs.Prelude.{vec_capacity}
 use Rattle.si_term.proofs.Results.{on_err}
 use Rattle.si_unify.specs.Solving.{slot_count, IsAcyclic, IsBinding}
 use Rattle.std.specs.List.{AllByRecursion}
-use Rattle.si_unify.specs.Circles.{IsTold}
+use Rattle.si_unify.specs.Circles.{SaysTriangular}
 use Rattle.si_unify.specs.Spots.{left_spot, right_spot}
 use Rattle.si_unify.specs.Unifying.{HasRoom, MakesMeet, MakesClosed}
 use Rattle.si_unify.proofs.Comparing.{grows_on}
@@ -107,8 +107,8 @@ returns-clause-answered c =
     closed_by c.args.self.now c.meet_terms.new.self c.in_ok-meet_terms.ensures.keeps_question c.close.new.self true
     (subst (MakesClosed c.meet_terms.new.self c.close.new.self) c.if-not-branch-2.false c.in_ok-close.ensures.closed)
     )
-    b (subst (λ q. IsTold q.slots c.close.new.self.trail.now.pairs b) goes.question told))
-    c.is_triangular.ensures.told
+    b (subst (λ q. SaysTriangular q.slots c.close.new.self.trail.now.pairs b) goes.question told))
+    c.is_triangular.ensures.triangular
 
 pub returns-clause-grows : goal.returns-clause-grows
 returns-clause-grows c = grows_on _ _ _ c.in_ok-meet_terms.ensures.grows c.in_ok-close.ensures.grows

@@ -78,13 +78,13 @@ abbrev mutual
 abbrev pub equality : Symbol
 equality = record { kind = Equal; text = codes "="; side = Predicate; arity = 2 }
 
--- two terms with a sign between them
+-- two terms with this token between them, which is `=` or `!=`
 abbrev pub AreSides : Token → Symbol → Term → Terms → List Token → Type 0
-AreSides sign s l terms.none ts = ⊥
-AreSides sign s l (terms.more r terms.none) ts =
+AreSides between s l terms.none ts = ⊥
+AreSides between s l (terms.more r terms.none) ts =
     (s ≡ equality) × ((left : List Token) × (right : List Token) × IsTerm l left × IsTerm r right
-    × (ts ≡ left ++ sign ∷ right))
-AreSides sign s l (terms.more r (terms.more u us)) ts = ⊥
+    × (ts ≡ left ++ between ∷ right))
+AreSides between s l (terms.more r (terms.more u us)) ts = ⊥
 
 -- a word with its arguments, or two terms with `=` between them
 abbrev pub IsAtom : Term → List Token → Type 0

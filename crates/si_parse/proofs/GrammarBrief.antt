@@ -222,7 +222,7 @@ GoesOn xs = ((rest : List Token) × (xs ≡ comma ∷ rest)) ⊎ ((rest : List T
 abbrev Closes : List Token → Type 0
 Closes ys = ((rest : List Token) × (ys ≡ comma ∷ rest)) ⊎ ((rest : List Token) × (ys ≡ right_bracket ∷ rest))
 
--- behind the clause's bracket none is open
+-- after the clause's bracket none is open
 none_open : (d : ℕ) (t : Token) → d ≡ 1 → t ≡ right_bracket → open_behind d t ≡ 0
 none_open d t e f = ap (λ n. open_behind n t) e ∙ ap (open_behind 1) f
 

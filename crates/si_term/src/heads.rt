@@ -1,4 +1,4 @@
-// The symbols of a clause: the heads of its entries.
+// The symbols that occur in a clause. Each entry begins with one, which is its head.
 ghost use Rattle.std.specs.Prelude.{◌≡◌, ◌<◌, ◌++◌, Some, IsSome, IfOk, OnOk, length, map, slice_get};
 ghost use Rattle.si_defs.specs.Terms.{row, head, symbols, symbols_of_all};
 ghost use Rattle.si_defs.specs.Clauses.{IsSoundClause};
@@ -32,7 +32,7 @@ fn head_of(term: &Term) -> &Sym
     }
 }
 
-/// The occurrences of symbols in a clause, in the order of its entries.
+/// The symbols that occur in a clause, once for each occurrence, in the order of its entries.
 pub fn symbols_of<'a>(alloc: Global, clause: &'a Clause) -> Result<Vec<&'a Sym>, AllocError>
     ensures { IfOk result (λ v. map (λ s. symbol_of s.now) v.items ≡ clause_symbols
         (clause_of clause.now)) }

@@ -95,7 +95,8 @@ impl Text {
         Text::longer(alloc, bytes)
     }
 
-    // A copy of bytes that aren't short. Few texts but that role are so long, so this isn't inlined.
+    // A copy of bytes that aren't short. Except for the role `negated_conjecture`, few texts are
+    // so long, so this isn't inlined.
     #[inline(never)]
     fn longer(alloc: Global, bytes: &[u8]) -> Result<Text, AllocError>
         ensures { IfOk result (λ t. t ≡ bytes.now) }

@@ -12,7 +12,7 @@ use std::alloc::{AllocError, Global};
 // So many heads are compared one by one.
 const MOST_COMPARED: usize = 16;
 
-/// The lists of heads and of children have room for so many at first.
+/// How many items the lists of heads and of children have room for when they are made.
 pub(crate) const FIRST_ROOM: usize = 4;
 
 /// The heads of a node's children, in order. No two are the same. Many are hashed.

@@ -282,7 +282,8 @@ impl Slot {
     }
 }
 
-// A place in 32 bits. One beyond them isn't likely, and no posting stands at the last of them.
+// A place as a guess in 32 bits. For a place too large for them, which isn't likely, it is the
+// largest number, at which no posting stands.
 fn likely_place(place: usize) -> u32 {
     match u32::try_from(place) {
         Ok(place) => place,

@@ -1,10 +1,9 @@
 -- The table of classes, held against the definitions at each of the 256 bytes, by computing.
 use Rattle.std.proofs.Common.{◌≡◌, ℕ, zero, suc, ◌<◌, List, [], ◌∷◌, get_or, refl, inl, inr, arith}
 use Rattle.std.proofs.lemmas.Bool.{cases_eq}
-use Rattle.si_defs.specs.Bytes.{is_word_byte}
 use Rattle.si_lex.specs.declared.bytes.First.{First}
 use Rattle.si_lex.specs.declared.bytes.First.TheVariants.{Small}
-use Rattle.si_lex.specs.Firsts.{first_of, is_in_words, mark_or_nothing}
+use Rattle.si_lex.specs.Firsts.{first_of}
 
 -- what a function gives at the numbers below n
 unfoldable pub below : {A : Type 0} → (ℕ → A) → ℕ → List A
@@ -21,7 +20,3 @@ same_at f g (suc n) e b l =
 
 pub first_by : (table : List First) (b : ℕ) → b < 256 → below (λ k. get_or table k Small) 256 ≡ below first_of 256 → get_or table b Small ≡ first_of b
 first_by table b l e = same_at _ _ 256 e b l
-
-pub word_by : (b : ℕ) → b < 256 → is_in_words (first_of b) ≡ is_word_byte b
-unfolding below mark_or_nothing
-word_by b l = same_at (λ k. is_in_words (first_of k)) is_word_byte 256 refl b l

@@ -31,14 +31,6 @@ begins_blank Percent = true
 begins_blank Slash = true
 begins_blank first = false
 
--- whether words go on with what begins so
-abbrev pub is_in_words : First → Bool
-is_in_words Digit = true
-is_in_words Capital = true
-is_in_words Small = true
-is_in_words Underscore = true
-is_in_words first = false
-
 -- the number of brackets that are open after what begins so, where this many are open before
 abbrev pub depth_behind : ℕ → First → ℕ
 depth_behind depth Opening = depth + 1

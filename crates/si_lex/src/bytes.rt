@@ -2,7 +2,7 @@
 ghost use Rattle.std.specs.Prelude.{◌≡◌, ◌≤◌, ◌<◌, IsTrue, length, drop};
 ghost use Rattle.si_defs.specs.Bytes as classes;
 ghost use Rattle.si_defs.specs.Tokens.{begins_with};
-ghost use Rattle.si_lex.specs.Firsts.{begins_blank, first_of, is_in_words};
+ghost use Rattle.si_lex.specs.Firsts.{begins_blank, first_of};
 
 use crate::bytes::First::{
     Capital as CA, Closing as CL, Digit as DI, Dollar as DO, DoubleQuote as DQ, Exclamation as EX,
@@ -10,8 +10,8 @@ use crate::bytes::First::{
     Slash as SL, Small as SM, Underscore as US, White as WS,
 };
 
-/// What a byte begins. Those of words are the first four and those that begin blanks the last
-/// three, so that one comparison tells either.
+/// What a byte begins. Those that begin blanks are the last three, so that one comparison tells
+/// them.
 #[derive(Clone, Copy)]
 pub enum First {
     /// A lower word.
@@ -88,28 +88,6 @@ fn is_blank_first(first: First) -> bool
         First::White => true,
         First::Percent => true,
         First::Slash => true,
-        _ => false,
-    }
-}
-
-/// A letter, a digit or `_`.
-#[inline(always)]
-pub fn is_word_byte(byte: u8) -> bool
-    ensures { result ≡ classes.is_word_byte byte }
-{
-    is_word_first(first_of(byte))
-}
-
-// Whether words go on so.
-#[inline(always)]
-fn is_word_first(first: First) -> bool
-    ensures { result ≡ is_in_words first }
-{
-    match first {
-        First::Digit => true,
-        First::Capital => true,
-        First::Small => true,
-        First::Underscore => true,
         _ => false,
     }
 }

@@ -5,7 +5,8 @@ ghost use Rattle.std.specs.List.{prefix_len};
 ghost use Rattle.si_defs.specs.Bytes as classes;
 ghost use Rattle.si_lex.specs.Scans.{behind_quote, decimal_len, lower_len};
 
-use crate::bytes::{is_printable, is_word_byte};
+use crate::bytes::is_printable;
+use si_term::is_word_byte;
 
 /// The place after the word bytes at a place.
 #[inline(always)]

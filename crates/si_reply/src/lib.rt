@@ -2,7 +2,6 @@
 //! terms, places, maps and solution lists. No call takes memory.
 #![tactic(auto)]
 
-mod bytes;
 mod names;
 mod printing;
 mod solution;

@@ -10,11 +10,10 @@ ghost use Rattle.si_term.specs.Terms.{symbol_of, term_of};
 ghost use Rattle.si_term.specs.Meaning.{name_of, place_of};
 ghost use Rattle.si_reply.specs.PrintedParts.{arguments_text, numbers_behind, number_list};
 
-use crate::bytes::is_word_byte;
 use itoa::Buffer;
 use si_flat::LitMap;
 use si_io::{Failed, Sink, write_all};
-use si_term::{Name, NameKind, Place, Sym, SymKind, Term};
+use si_term::{Name, NameKind, Place, Sym, SymKind, Term, is_word_byte};
 
 /// Writes the bytes.
 #[inline(always)]

@@ -1,4 +1,4 @@
-// Classes of bytes.
+// The bytes of words.
 ghost use Rattle.std.specs.Prelude.{◌≡◌};
 ghost use Rattle.si_defs.specs.Bytes.{is_word_byte};
 

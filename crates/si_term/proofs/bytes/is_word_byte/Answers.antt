@@ -3,8 +3,8 @@ use Rattle.std.proofs.Common.{◌≡◌, false, map, get_or, refl, ap, ◌∙◌
 use Rattle.std.specs.List.{range_with_len}
 use Rattle.std.proofs.lemmas.List.FromFn.{get_or-map-range_with_len}
 use Rattle.si_defs.specs.Bytes.{is_word_byte}
-use Rattle.si_reply.specs.declared.bytes.TheConstants.{IN_WORDS}
-use Rattle.si_reply.proofs.bytes.is_word_byte.Goals as goal
+use Rattle.si_term.specs.declared.bytes.TheConstants.{IN_WORDS}
+use Rattle.si_term.proofs.bytes.is_word_byte.Goals as goal
 
 pub returns : goal.returns
 returns c =

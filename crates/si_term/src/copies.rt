@@ -128,8 +128,30 @@ fn copy_term(alloc: Global, term: &Term) -> Result<Term, AllocError>
     }
 }
 
+/// Equal terms. Up to three take one block, and none takes any.
 #[cycle(copy)]
 fn copy_terms(alloc: Global, terms: &[Term]) -> Result<Terms, AllocError>
+    ensures { IfOk result (λ ts. ts ≡ map term_of terms.now) }
+{
+    match terms {
+        [] => Ok(Terms::new(alloc)),
+        [one] => Terms::one(alloc, copy_term(alloc, one)?),
+        [left, right] => {
+            let left = copy_term(alloc, left)?;
+            Terms::pair(alloc, left, copy_term(alloc, right)?)
+        }
+        [first, second, third] => {
+            let first = copy_term(alloc, first)?;
+            let second = copy_term(alloc, second)?;
+            Terms::three(alloc, first, second, copy_term(alloc, third)?)
+        }
+        _ => copy_many(alloc, terms),
+    }
+}
+
+/// The same of any number of terms, in a list with as much room as they take.
+#[cycle(copy)]
+fn copy_many(alloc: Global, terms: &[Term]) -> Result<Terms, AllocError>
     ensures { IfOk result (λ ts. ts ≡ map term_of terms.now) }
 {
     let mut copies = Terms::with_capacity(alloc, terms.len())?;

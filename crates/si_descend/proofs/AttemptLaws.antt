@@ -1,6 +1,6 @@
 -- Which children of a node were tried, place by place, and that the others are closed.
-use Rattle.std.proofs.Common.{◌≡◌, ◌⊎◌, inl, inr, ℕ, zero, suc, ◌+◌, ◌-◌, ◌^◌, ◌<◌, ◌≤◌, List, [], ◌∷◌, ◌++◌, Option, None, Some, length, slice_get, refl, ap, sym, ◌∙◌, subst, arith}
-use Rattle.std.specs.Prelude.{Vec, vec_capacity}
+use Rattle.std.proofs.Common.{◌≡◌, ◌⊎◌, inl, inr, ℕ, zero, suc, ◌+◌, ◌-◌, ◌^◌, ◌<◌, ◌≤◌, false, List, [], ◌∷◌, ◌++◌, Option, None, Some, length, slice_get, refl, ap, sym, ◌∙◌, subst, arith}
+use Rattle.std.specs.Bool.{⊤}
 use Rattle.std.specs.Borrow.{Bor}
 use Rattle.std.specs.List.{AllByRecursion}
 use Rattle.std.proofs.lemmas.Bool.Decides.{eqb_tells}
@@ -8,10 +8,11 @@ use Rattle.std.proofs.lemmas.Option.{same_Some}
 use Rattle.si_defs.specs.Terms as terms
 use Rattle.si_defs.specs.Substitutions.{IsAmong, AreDistinct}
 use Rattle.si_defs.proofs.ListLaws.{all_at, get_among, among_front, among_back, among_either}
+use Rattle.std.proofs.lemmas.List.{length-append}
+use Rattle.si_trail.specs.Trails.{Trail}
 use Rattle.si_flat.specs.declared.Cell.{Cell}
 use Rattle.si_flat.specs.Cells.{Variable, query, entry, ind, Term}
 use Rattle.si_unify.specs.Solving.{Pairs}
-use Rattle.si_legal.specs.declared.Posting.{Posting}
 use Rattle.si_legal.specs.Trees.{Content, inner, leaf, Node, Tree, HasNode}
 use Rattle.si_legal.specs.Legal.{IsLegalContent, IsWithin, ChildBinds}
 use Rattle.si_legal.specs.Bindings.{IsIndicator}
@@ -31,14 +32,15 @@ use Rattle.si_descend.specs.declared.attempts.Lookup.{Lookup}
 use Rattle.si_descend.specs.declared.heads.Wanted.{Wanted}
 use Rattle.si_descend.specs.declared.search.Search.{Search}
 use Rattle.si_descend.specs.Attempts.{head_at, wanted_of, place_count, HasHeadBelow, AreHeadsFor, HasPlaces, IsTried, IsTriedBefore, AreAttempts}
-use Rattle.si_descend.specs.Lending.{HasRoomForAnswers}
+use Rattle.si_descend.specs.declared.pending.Pending.{Pending}
+use Rattle.si_descend.specs.Pending.{IsDue, Leaves, pending_at}
 use Rattle.si_descend.specs.Heads.{SplitsBy, IsWanted, RulesOut}
-use Rattle.si_descend.specs.Searching.{IsReady, HasComeTo, IsClosedAt, HasFound, HasFoundBelow, HasRoomForAllBelow}
-use Rattle.si_descend.proofs.EnoughLaws.{child_fits}
-use Rattle.si_descend.proofs.ExactLists.{distinct_both}
+use Rattle.si_descend.specs.Searching.{IsReady, IsAtNode, IsClosedAt}
+use Rattle.si_descend.proofs.ExactLists.{distinct_both, no_more}
+use Rattle.si_descend.proofs.PendingLaws.{length_at, all_at_once, one_pending_more, due_at_once}
 use Rattle.si_descend.proofs.Below.{IsChildOf}
 use Rattle.si_descend.proofs.HeadLaws.{ruled_out}
-use Rattle.si_descend.proofs.Visiting.{AreSiblings, siblings, one_child_more, all_children}
+use Rattle.si_descend.proofs.Visiting.{siblings, goes_down}
 
 -- these children were tried before this place, and the others that are tried there can't be open
 pub record WereTried (search : Search) (key : ℕ) (a : Attempts) (place : ℕ) (tried : List ℕ) : Type 0 where
@@ -218,35 +220,41 @@ module _ (search : Search) (ready : IsReady search) (key : ℕ) (node : Node Ter
         by (InOrder siblings) e f = same_Some child c (sym e ∙ f)
         by (ByHeads heads) (h, e, p) (k, f, q) = one_by_head h child c p (subst (λ n. IsChildBy search.tree.now key n c) (same_Some k h (sym f ∙ e)) q)
 
-    tried_siblings : (place : ℕ) (tried : List ℕ) → WereTried search key a place tried → AreSiblings search ready key node has tried
-    tried_siblings place tried were = record {
-      are = λ child b. (let t = were.before child b in tried_child t.0 child t.2);
-      distinct = were.distinct;
-    }
+    -- ---- with those that are pending
+    module _ (mark taken_mark : ℕ) (old : List Pending) where
+      pub one_more_pending : (place child : ℕ) (items new : List Pending) → place < place_count a → IsTried search key a place child → IsUnderway search key a place (λ tried. items ≡ old ++ pending_at mark taken_mark false tried) → new ≡ items ++ record { node = child; mark = mark; taken_mark = taken_mark; whole = false } ∷ [] → IsUnderway search key a (place + 1) (λ tried. new ≡ old ++ pending_at mark taken_mark false tried)
+      one_more_pending place child items new within t (tried, were, e) f =
+          (tried ++ child ∷ [], one_more_tried place child tried within t were, one_pending_more old items new mark taken_mark false tried child e f)
 
-    -- ---- with what was found
-    pub found_more : (place child : ℕ) (old mid last : List Posting) (m n : ℕ) → place < place_count a → IsTried search key a place child → IsUnderway search key a place (λ tried. HasFoundBelow search tried old mid m) → HasFound search child mid last n → IsUnderway search key a (place + 1) (λ tried. HasFoundBelow search tried old last (m + n))
-    found_more place child old mid last m n within t (tried, were, before) found =
-        let now = one_more_tried place child tried within t were in
-        (tried ++ child ∷ [], now, one_child_more search ready key node has tried child old mid last m n (tried_siblings (place + 1) (tried ++ child ∷ []) now) (not_tried_yet place child tried within t were) before found)
+      -- they are no more than there are children
+      pub few_pending : (place child : ℕ) (items : List Pending) → place < place_count a → IsTried search key a place child → IsUnderway search key a place (λ tried. items ≡ old ++ pending_at mark taken_mark false tried) → length items + 1 ≤ length old + length (children_of node.content)
+      few_pending place child items within t (tried, were, e) =
+          let next = one_more_tried place child tried within t were in
+          omega (
+            arith,
+            no_more (tried ++ child ∷ []) (children_of node.content) next.distinct (λ c b. (let w = next.before c b in tried_among w.0 c w.2)),
+            length-append tried (child ∷ []),
+            ap length e,
+            length-append old (pending_at mark taken_mark false tried),
+            length_at mark taken_mark false tried,
+          )
 
-    -- and for what is found at the next place there is room
-    pub next_fits : {A : Type 0} (place child : ℕ) (out now : Vec Posting A) (n : ℕ) → place < place_count a → IsTried search key a place child → IsUnderway search key a place (λ tried. HasFoundBelow search tried out.items now.items n) → vec_capacity out ≤ vec_capacity now → HasRoomForAllBelow search (children_of node.content) out → HasRoomForAnswers search.tree.now child search.relation search.query.now now
-    next_fits place child out now n within t (tried, were, found) more room =
-        let next = one_more_tried place child tried within t were in
-        child_fits search ready key node has tried (children_of node.content) child out now n (tried_siblings (place + 1) (tried ++ child ∷ []) next) (not_tried_yet place child tried within t were)
-        (λ c b. (let w = were.before c b in tried_among w.0 c w.2))
-        (tried_among place child t) found more room
-
-    pub found_all : (pairs : Pairs) → HasComeTo search (Some key) pairs → IsWanted search key pairs (wanted_of a) → (place : ℕ) (old last : List Posting) (n : ℕ) → place_count a ≤ place → IsUnderway search key a place (λ tried. HasFoundBelow search tried old last n) → HasFoundBelow search (children_of node.content) old last n
-    found_all pairs there wanted place old last n through (tried, were, found) =
-        all_children search ready key node has tried (children_of node.content) old last n (siblings search ready key node has)
-        (λ child b. (let t = were.before child b in tried_among t.0 child t.2))
-        others found
-      where
+      pub leaves_tried : (trail : Trail (Bor (List Cell))) (taken : Trail ⊤) → mark ≡ length trail.pairs → taken_mark ≡ length taken.pairs → IsAtNode search key trail taken → IsWanted search key trail.pairs (wanted_of a) → (place : ℕ) (new : List Pending) → place_count a ≤ place → IsUnderway search key a place (λ tried. new ≡ old ++ pending_at mark taken_mark false tried) → Leaves search key trail taken old new
+      leaves_tried trail taken e f at wanted place new through (tried, were, pushed) = record {
+        tops = tried;
+        whole = false;
+        visit = record {
+          distinct = were.distinct;
+          within = λ n has' child b. subst (λ m. IsAmong (children_of m.content) child) (one_node search.tree.now key node n has has') (let w = were.before child b in tried_among w.0 child w.2);
+          others = λ n has' child b. others child (subst (λ m. IsAmong (children_of m.content) child) (one_node search.tree.now key n node has' has) b);
+        };
+        pushed = pushed ∙ ap (λ m. old ++ pending_at m taken_mark false tried) e ∙ ap (λ k. old ++ pending_at (length trail.pairs) k false tried) f;
+        due = all_at_once (IsDue search trail taken) (length trail.pairs) (length taken.pairs) false tried
+            (λ child b. (let w = were.before child b in due_at_once search child trail taken false (goes_down search key child trail trail taken taken (tried_child w.0 child w.2) refl refl refl at)));
+      } where
         others : (child : ℕ) → IsAmong (children_of node.content) child → IsAmong tried child ⊎ IsClosedAt search child
         others child b =
-            let closed : RulesOut search (wanted_of a) child → IsClosedAt search child = ruled_out search ready key child ((siblings search ready key node has).are child b) pairs there (wanted_of a) wanted in
+            let closed : RulesOut search (wanted_of a) child → IsClosedAt search child = ruled_out search ready key child ((siblings search ready key node has).are child b) trail.pairs at.there (wanted_of a) wanted in
             elim (are.all node has child b) as (λ _. IsAmong tried child ⊎ IsClosedAt search child) [
               | inl t ↦ elim (were.others child (t.0, omega (arith, t.1, through), t.2)) as (λ _. IsAmong tried child ⊎ IsClosedAt search child) [
                 | inl c ↦ inl c

@@ -1,5 +1,5 @@
 -- How far down a node stands: a child stands one deeper, and no node deeper than there are nodes.
-use Rattle.std.proofs.Common.{◌≡◌, ℕ, zero, suc, ◌+◌, ◌*◌, ◌-◌, ◌<◌, ◌≤◌, [], ◌∷◌, Option, None, Some, length, refl, ap, ◌∙◌, subst, arith}
+use Rattle.std.proofs.Common.{◌≡◌, ℕ, zero, suc, ◌≤◌, [], ◌∷◌, Option, None, Some, length, refl, ap, ◌∙◌, subst, arith}
 use Rattle.si_flat.specs.Cells.{Term}
 use Rattle.si_legal.specs.Counts.{node_count}
 use Rattle.si_legal.specs.Trees.{Tree, Path, IsPath}
@@ -32,7 +32,3 @@ child_deeper tree legal key child is =
     let here = depth_path (node_count tree) tree (Some child) ((child, is.0) ∷ h.above) down short in
     let there = depth_path (node_count tree) tree (Some key) h.above up (omega (arith, short)) in
     record { one = omega (arith, here, there); few = omega (arith, here, short) }
-
--- so the measure falls
-pub falls : (tree : Tree Term) (key child : ℕ) → IsDeeper tree key child → 4 * (node_count tree - depth tree child) + 3 < 4 * (node_count tree - depth tree key)
-falls tree key child d = omega (arith, d.one, d.few)

@@ -7,7 +7,6 @@ pub mod Below
 pub mod Finding
 pub mod Entering
 pub mod Opening
-pub mod Depths
 pub mod Visiting
 pub mod EnoughLaws
 pub mod RightLaws
@@ -27,3 +26,9 @@ pub mod Assigning
 pub mod OpenSubtrees
 pub mod EndTurns
 pub mod Walking
+pub mod Passing
+pub mod PendingLaws
+pub mod Gathering
+pub mod Depths
+pub mod Turns
+pub mod LongestLaws

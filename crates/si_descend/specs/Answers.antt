@@ -1,7 +1,6 @@
 -- What a descent finds.
 use Rattle.std.specs.Borrow.{Bor}
-use Rattle.std.specs.Prelude.{◌≡◌, ℕ, ◌↔◌, List, length, Result, IfOk, OnErr}
-use Rattle.si_defs.specs.Substitutions.{IsAmong, AreDistinct}
+use Rattle.std.specs.Prelude.{◌≡◌, ℕ, List, Result, IfOk, OnErr}
 use Rattle.si_defs.specs.declared.Relation.{Relation}
 use Rattle.si_defs.specs.Relations.{Relates}
 use Rattle.si_trail.specs.Trails.{Trail}
@@ -10,7 +9,7 @@ use Rattle.si_flat.specs.Cells.{same_variable, Term, StandsFor}
 use Rattle.si_legal.specs.declared.Posting.{Posting}
 use Rattle.si_legal.specs.Trees.{Tree}
 use Rattle.si_legal.specs.Descents.{IsAnswer}
-use Rattle.si_legal.specs.OpenNodes.{IsOpenNode, CountsOpen}
+use Rattle.si_legal.specs.OpenNodes.{CountsOpen}
 use Rattle.si_legal.specs.Engines.{AppendsAnswers}
 use Rattle.si_legal.specs.StoredSets.{IsUnder}
 
@@ -43,21 +42,3 @@ pub record Retrieves (tree : Tree Term) (relation : Relation) (query : List Cell
   pub counts : (q : Term) → StandsFor query q → CountsOpen tree tree.root relation q n
   pub appends : (q : Term) → StandsFor query q
       → AppendsAnswers (IsStoredAnswer tree relation q) old new
-
--- ---- below several nodes
--- the node is open, and stands at one of these or below it
-abbrev pub IsOpenBelowOne : Tree Term → List ℕ → Relation → Term → ℕ → Type 0
-IsOpenBelowOne tree tops relation q key =
-    (top : ℕ) × IsAmong tops top × IsOpenNode tree top relation q key
-
--- so many nodes are
-abbrev pub CountsBelow : Tree Term → List ℕ → Relation → Term → ℕ → Type 0
-CountsBelow tree tops relation q n =
-    (keys : List ℕ) × AreDistinct keys
-    × ((key : ℕ) → IsAmong keys key ↔ IsOpenBelowOne tree tops relation q key)
-    × (n ≡ length keys)
-
--- the posting is an answer below one of these
-abbrev pub IsAnswerBelow : Tree Term → List ℕ → Relation → Term → Posting → Type 0
-IsAnswerBelow tree tops relation q p =
-    (top : ℕ) × IsAmong tops top × IsAnswer tree top relation q p

@@ -1,5 +1,5 @@
 -- What a search counts.
-use Rattle.std.specs.Prelude.{◌≡◌, ℕ, ◌+◌, ◌-◌, ◌^◌, ◌<◌, min, List, [], length}
+use Rattle.std.specs.Prelude.{◌≡◌, ℕ, ◌-◌, ◌^◌, min, List, [], length}
 use Rattle.si_legal.specs.declared.Posting.{Posting}
 use Rattle.si_legal.specs.Engines.{AreAnswers}
 use Rattle.si_legal.specs.OpenNodes.{CountsOpen}
@@ -10,7 +10,7 @@ use Rattle.si_flat.specs.Cells.{Term, StandsFor}
 use Rattle.si_descend.specs.declared.counting.Counted.{Counted}
 use Rattle.si_descend.specs.declared.search.Search.{Search}
 use Rattle.si_descend.specs.Answers.{IsStoredAnswer}
-use Rattle.si_descend.specs.Searching.{HasFound, HasFoundBelow}
+use Rattle.si_descend.specs.Searching.{HasFound}
 
 -- the number, or the greatest that there is a place for
 abbrev pub at_most : ℕ → ℕ
@@ -21,24 +21,6 @@ abbrev pub HasCounted : Search → ℕ → Counted → Type 0
 HasCounted search top c =
     (found : List Posting) × HasFound search top [] found c.passed
     × (c.answers ≡ at_most (length found))
-
-abbrev pub HasCountedBelow : Search → List ℕ → Counted → Type 0
-HasCountedBelow search tops c =
-    (found : List Posting) × HasFoundBelow search tops [] found c.passed
-    × (c.answers ≡ at_most (length found))
-
--- the numbers of both together, where those of the first have a place
-pub record IsSumOf (one other sum : Counted) : Type 0 where
-  pub passed : one.passed < 2 ^ 64 → sum.passed ≡ at_most (one.passed + other.passed)
-  pub answers : one.answers < 2 ^ 64 → sum.answers ≡ at_most (one.answers + other.answers)
-
--- what a search from there would count was added to the old numbers
-abbrev pub CountsMore : Search → ℕ → Counted → Counted → Type 0
-CountsMore search top old new = (c : Counted) × HasCounted search top c × IsSumOf old c new
-
-abbrev pub CountsMoreBelow : Search → List ℕ → Counted → Counted → Type 0
-CountsMoreBelow search tops old new =
-    (c : Counted) × HasCountedBelow search tops c × IsSumOf old c new
 
 -- the open nodes of the tree, and the postings of the stored terms in the relation
 pub record CountsAnswers (tree : Tree Term) (relation : Relation) (query : List Cell)

@@ -1,5 +1,5 @@
 -- What a descent is lent, and when it is enough.
-use Rattle.std.specs.Prelude.{◌≡◌, ℕ, ◌+◌, ◌≤◌, max, List, [], ◌∷◌, length, Some, Vec, vec_capacity}
+use Rattle.std.specs.Prelude.{◌≡◌, ℕ, ◌+◌, ◌≤◌, max, List, [], ◌∷◌, length, Vec, vec_capacity}
 use Rattle.std.specs.List.{AllByRecursion}
 use Rattle.si_defs.specs.Substitutions.{IsAmong, AreDistinct}
 use Rattle.si_defs.specs.declared.Relation.{Relation}
@@ -13,7 +13,7 @@ use Rattle.si_unify.specs.Rooms.{SolverRoom, AreNoLongerThan, IsEnoughToSolve}
 use Rattle.si_unify.specs.Solving.{Pairs}
 use Rattle.si_legal.specs.declared.Posting.{Posting}
 use Rattle.si_legal.specs.Bindings.{Binding}
-use Rattle.si_legal.specs.Trees.{Node, Tree, HasNode, Path, IsPath, PassesBy}
+use Rattle.si_legal.specs.Trees.{Node, Tree, HasNode}
 use Rattle.si_legal.specs.Descents.{IsAnswer}
 
 -- ---- right sides
@@ -25,13 +25,6 @@ AreNoLongerBindings n = AllByRecursion (λ b. length (cells_of b.1) ≤ n)
 abbrev pub AreRightsNoLongerThan : ℕ → Tree Term → Type 0
 AreRightsNoLongerThan n tree =
     (key : ℕ) (node : Node Term) → HasNode tree key node → AreNoLongerBindings n node.bindings
-
--- none has below this node or at it
-abbrev pub AreRightsBelowNoLongerThan : ℕ → Tree Term → ℕ → Type 0
-AreRightsBelowNoLongerThan n tree top =
-    (key : ℕ) (node : Node Term) (above : Path)
-    → IsPath tree (Some key) ((key, node) ∷ above) → PassesBy ((key, node) ∷ above) top
-    → AreNoLongerBindings n node.bindings
 
 -- the cells of the longest of these
 abbrev pub most_cells : List CellPair → ℕ

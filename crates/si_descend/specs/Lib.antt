@@ -7,3 +7,4 @@ pub mod Heads
 pub mod Attempts
 pub mod Counting
 pub mod Lending
+pub mod Pending

@@ -1,7 +1,6 @@
 -- What the search of a tree knows at a node, and what it finds below it.
 use Rattle.std.specs.Borrow.{Bor}
-use Rattle.std.specs.Prelude.{◌≡◌, ℕ, zero, suc, ◌<◌, ◌≤◌, ◌^◌, length, Bool, true, false, ⊤, List, Option, None, Some, Result, OnOk, Vec, slice_index_or}
-use Rattle.si_defs.specs.Substitutions.{Grows}
+use Rattle.std.specs.Prelude.{ℕ, zero, suc, ◌<◌, ◌≤◌, ◌^◌, length, Bool, true, false, ⊤, List, Option, None, Some, slice_index_or}
 use Rattle.si_defs.specs.declared.Relation.{Relation}
 use Rattle.si_defs.specs.declared.Relation.TheVariants.{Variants}
 use Rattle.si_flat.specs.declared.Cell.{Cell}
@@ -9,17 +8,14 @@ use Rattle.si_flat.specs.Cells.{Term, StandsFor}
 use Rattle.si_trail.specs.Trails.{Trail}
 use Rattle.si_unify.specs.declared.slots.Slots.{Slots}
 use Rattle.si_unify.specs.Solving.{Pairs, AllowsSolving}
-use Rattle.si_unify.specs.Rooms.{SolverRoom}
 use Rattle.si_legal.specs.declared.Posting.{Posting}
 use Rattle.si_legal.specs.Counts.{node_count}
-use Rattle.si_legal.specs.Engines.{AppendsAnswers}
 use Rattle.si_legal.specs.Trees.{Node, Tree, Path, IsPath, PassesBy, path_term}
 use Rattle.si_legal.specs.Legal.{IsLegal}
 use Rattle.si_legal.specs.OpenNodes.{IsOpen}
 use Rattle.si_descend.specs.declared.search.Search.{Search}
 use Rattle.si_descend.specs.Descending.{Freezes, HasRoom, ShowsPath, IsQueryTerm}
-use Rattle.si_descend.specs.Lending.{IsEnoughForTree, HasRoomForAll, HasRoomForAnswers}
-use Rattle.si_descend.specs.Answers.{Finds, CountsBelow, IsAnswerBelow}
+use Rattle.si_descend.specs.Answers.{Finds}
 use Rattle.si_fit.specs.Fitting.{HasSolution}
 use Rattle.si_tree.specs.Reading.{IsNode, AtNode}
 use Rattle.si_descend.specs.Renaming.{AreTaken, IsRenaming}
@@ -99,47 +95,9 @@ pub record IsAboveNode (search : Search) (key : ℕ) (trail : Trail (Bor (List C
   pub searching : IsDescending search trail taken
   pub above : AtNode search.tree.now key (λ n. HasComeTo search n.parent trail.pairs)
 
--- More may be bound at an error alone.
-pub record Returns {A E : Type 0} (result : Result A E) (old new : Trail (Bor (List Cell)))
-    (before after : Trail ⊤) : Type 0 where
-  pub same : OnOk result (new.pairs ≡ old.pairs)
-  pub grows : Grows old.pairs new.pairs
-  pub count : new.slots ≡ old.slots
-  pub noted : OnOk result (after ≡ before)
-  pub table : after.slots ≡ before.slots
-
 -- ---- what is found
 abbrev pub HasFound : Search → ℕ → List Posting → List Posting → ℕ → Type 0
 HasFound search top = Finds search.tree.now top search.relation search.query.now
-
-pub record HasFoundBelow (search : Search) (tops : List ℕ) (old new : List Posting) (n : ℕ)
-    : Type 0 where
-  pub counts : (q : Term) → StandsFor search.query.now q
-      → CountsBelow search.tree.now tops search.relation q n
-  pub appends : (q : Term) → StandsFor search.query.now q
-      → AppendsAnswers (IsAnswerBelow search.tree.now tops search.relation q) old new
-
--- ---- what is lacking where memory runs out
--- room for what is found below the node
-abbrev pub LacksPlace : {A : Type 0} → Search → ℕ → Vec Posting A → Type 0
-LacksPlace search top out =
-    HasRoomForAnswers search.tree.now top search.relation search.query.now out → ⊥
-
--- that, or room to solve
-abbrev pub LacksRoom : {A : Type 0} → Search → ℕ → Pairs → SolverRoom → Vec Posting A → Type 0
-LacksRoom search top pairs room out =
-    (n : ℕ) → IsEnoughForTree n search.tree.now search.slots pairs room → LacksPlace search top out
-
-abbrev pub HasRoomForAllBelow : {A : Type 0} → Search → List ℕ → Vec Posting A → Type 0
-HasRoomForAllBelow search tops out =
-    (q : Term) → StandsFor search.query.now q
-    → HasRoomForAll (IsAnswerBelow search.tree.now tops search.relation q) out
-
-abbrev pub LacksRoomBelow : {A : Type 0} → Search → List ℕ → Pairs → SolverRoom
-    → Vec Posting A → Type 0
-LacksRoomBelow search tops pairs room out =
-    (n : ℕ) → IsEnoughForTree n search.tree.now search.slots pairs room
-    → HasRoomForAllBelow search tops out → ⊥
 
 -- ---- how far down a node stands
 abbrev pub one_deeper : (Option ℕ → ℕ) → Option (Node Term) → ℕ

@@ -1,6 +1,6 @@
 -- Whole subtrees that are open: where all indicators that are open at a node stand for different
 -- variables that can still be anything.
-use Rattle.std.specs.Prelude.{◌≡◌, ℕ, Bool, true, false, List, [], ◌++◌, map, Option, None, Some, slice_get}
+use Rattle.std.specs.Prelude.{◌≡◌, ℕ, Bool, true, false, List, ◌++◌, map, Option, None, Some, slice_get}
 use Rattle.std.specs.List.{AllByRecursion}
 use Rattle.std.specs.Borrow.{Bor}
 use Rattle.si_defs.specs.Substitutions.{IsAmong, AreDistinct}
@@ -10,7 +10,6 @@ use Rattle.si_flat.specs.declared.Cell.TheVariants as cell
 use Rattle.si_flat.specs.Cells.{Variable, entry, ind, Term}
 use Rattle.si_legal.specs.Trees.{Tree, Path, IsPath}
 use Rattle.si_legal.specs.Legal.{IsOpenBelow}
-use Rattle.si_tree.specs.Reading.{AtNode, postings_of}
 use Rattle.si_unify.specs.declared.slots.Slots.{Slots}
 use Rattle.si_unify.specs.Solving.{Pairs, slot_of, variable_of, is_frozen, IsInRange, IsSolvedBy}
 use Rattle.si_unify.specs.Spots.{cell_slot}
@@ -67,9 +66,6 @@ HasClearValue slots pairs ends n =
 abbrev pub AreAllOpen : Tree Term → ℕ → List ℕ → Type 0
 AreAllOpen tree key ns =
     (path : Path) → IsPath tree (Some key) path → (n : ℕ) → IsOpenBelow path n → IsAmong ns n
-
-abbrev pub HasNoPostings : Tree Term → ℕ → Type 0
-HasNoPostings tree key = AtNode tree key (λ n. postings_of n.content ≡ [])
 
 -- a term with a symbol at its head is wanted
 abbrev pub is_symbol : Cell → Bool

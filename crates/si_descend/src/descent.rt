@@ -1,5 +1,5 @@
 // The calls: a descent from a node, and one of the whole tree.
-ghost use Rattle.std.specs.Prelude.{◌≡◌, ◌↔◌, ◌≤◌, ◌^◌, IsTrue, IfOk, OnOk, OnErr, length, vec_capacity, ℕ};
+ghost use Rattle.std.specs.Prelude.{◌≡◌, ◌↔◌, ◌≤◌, ◌^◌, [], IsTrue, IfOk, OnErr, length, vec_capacity, ℕ};
 ghost use Rattle.si_defs.specs.Substitutions.{Grows};
 ghost use Rattle.si_trail.specs.Trails.{HasDistinctSlots};
 ghost use Rattle.si_flat.specs.Cells.{IsWhole};
@@ -10,11 +10,14 @@ ghost use Rattle.si_unify.specs.Rooms.{IsNoLessRoom};
 ghost use Rattle.si_descend.specs.Lending.{HasRoomForAnswers, IsEnoughForTree, IsTableFor};
 ghost use Rattle.si_descend.specs.Descending.{Freezes, IsQuery, MayDescend, ShowsAbove};
 ghost use Rattle.si_unify.specs.Solving.{AllowsSolving};
-ghost use Rattle.si_descend.specs.Searching.{IsReady, KeepsApart, NotesTaken, HasFound, LacksRoom};
+ghost use Rattle.si_legal.specs.Counts.{node_count};
+ghost use Rattle.si_descend.specs.Pending.{LacksRoom};
+ghost use Rattle.si_descend.specs.Searching.{IsReady, KeepsApart, NotesTaken, HasFound};
 
-use crate::counting::{Counted, count_at};
+use crate::counting::{Counted, count_all};
 use crate::memory::SearchMemory;
-use crate::search::{Search, visit};
+use crate::pending::Pending;
+use crate::search::{Search, visit_all};
 use crate::taken::Taken;
 use crate::variants::is_renaming;
 use si_defs::Relation;
@@ -44,6 +47,36 @@ pub fn descend<'a>(
     ensures { HasDescended tree.now node relation query.now result trail.old trail.new
         out.old.items out.new.items }
 {
+    let mut pending = Vec::new(alloc);
+    descend_over(
+        alloc,
+        tree,
+        node,
+        relation,
+        query,
+        slots,
+        trail,
+        &mut pending,
+        out,
+    )
+}
+
+// The same with a list that is lent.
+fn descend_over<'a>(
+    alloc: Global,
+    tree: &'a Tree,
+    node: NodeId,
+    relation: Relation,
+    query: &'a Flat,
+    slots: &Slots,
+    trail: &mut Trail<&'a [Cell]>,
+    pending: &mut Vec<Pending>,
+    out: &mut Vec<Posting>,
+) -> Result<u64, AllocError>
+    requires { MayDescend tree.now node relation query.now slots.now trail.old }
+    ensures { HasDescended tree.now node relation query.now result trail.old trail.new
+        out.old.items out.new.items }
+{
     let mut scratch = Scratch::new(alloc);
     let mut taken = Taken::none(alloc, relation, slots)?;
     descend_with(
@@ -55,6 +88,7 @@ pub fn descend<'a>(
         &mut scratch,
         trail,
         &mut taken,
+        pending,
         out,
     )
 }
@@ -65,7 +99,8 @@ pub fn descend<'a>(
 /// # Errors
 ///
 /// `AllocError` where there is no memory. It never comes if the scratch has room enough to solve
-/// all bindings of the tree over those of the trail, and `out` for all that can be found.
+/// all bindings of the tree over those of the trail, `pending` for as many nodes as the tree has,
+/// and `out` for all that can be found.
 pub fn descend_with<'a>(
     tree: &'a Tree,
     node: NodeId,
@@ -75,6 +110,7 @@ pub fn descend_with<'a>(
     scratch: &mut Scratch,
     trail: &mut Trail<&'a [Cell]>,
     taken: &mut Taken,
+    pending: &mut Vec<Pending>,
     out: &mut Vec<Posting>,
 ) -> Result<u64, AllocError>
     requires may { MayDescend tree.now node relation query.now slots.now trail.old }
@@ -84,15 +120,19 @@ pub fn descend_with<'a>(
     ensures table { taken.new ≡ taken.old }
     ensures full { OnErr result ((n : ℕ)
         → IsEnoughForTree n tree.now slots.now trail.old.pairs scratch.old
+        → node_count tree.now ≤ vec_capacity pending.old
         → HasRoomForAnswers tree.now node relation query.now out.old → ⊥) }
     ensures keeps { IsNoLessRoom scratch.old scratch.new }
+    ensures list_room { vec_capacity pending.old ≤ vec_capacity pending.new }
     ensures room { vec_capacity out.old ≤ vec_capacity out.new }
 {
     let search = Search::new(tree, relation, query, *slots);
     let mark = trail.mark();
     let before = out.len();
-    match search_below(&search, node, scratch, trail, taken, out) {
+    pending.clear();
+    match search_below(&search, node, scratch, trail, taken, pending, out) {
         Ok(count) => {
+            trail.undo(mark);
             taken.undo(0);
             Ok(count)
         }
@@ -125,8 +165,19 @@ pub fn retrieve(
     let slots = slots_for(tree, relation, cells);
     let mut trail = memory.trail(slots.count())?;
     trail.bind(slots.indicator_slot(0), cells);
-    let passed = descend(alloc, tree, root, relation, query, &slots, &mut trail, out);
-    memory.take_back(trail);
+    let mut pending = memory.pending();
+    let passed = descend_over(
+        alloc,
+        tree,
+        root,
+        relation,
+        query,
+        &slots,
+        &mut trail,
+        &mut pending,
+        out,
+    );
+    memory.take_back(trail, pending);
     passed
 }
 
@@ -147,8 +198,9 @@ pub fn count(
     let mut trail = memory.trail(slots.count())?;
     trail.bind(slots.indicator_slot(0), cells);
     let search = Search::new(tree, relation, query, slots);
-    let counted = count_below(alloc, &search, root, &mut trail);
-    memory.take_back(trail);
+    let mut pending = memory.pending();
+    let counted = count_below(alloc, &search, root, &mut trail, &mut pending);
+    memory.take_back(trail, pending);
     counted
 }
 
@@ -158,6 +210,7 @@ fn count_below<'a>(
     search: &Search<'a>,
     node: NodeId,
     trail: &mut Trail<&'a [Cell]>,
+    pending: &mut Vec<Pending>,
 ) -> Result<Counted, AllocError>
     requires node { IsNode search.now.tree.now node }
     requires ready { IsReady search.now }
@@ -173,9 +226,8 @@ fn count_below<'a>(
         return Ok(Counted::NONE);
     }
     let mut scratch = Scratch::new(alloc);
-    let mut counted = Counted::NONE;
-    count_at(search, node, &mut scratch, trail, &mut taken, &mut counted)?;
-    Ok(counted)
+    pending.clear();
+    count_all(search, node, &mut scratch, trail, &mut taken, pending)
 }
 
 /// Slots for a question of the whole tree: for the query, which has no more variables than cells,
@@ -215,14 +267,15 @@ fn length_of(cells: &[Cell]) -> u32
     }
 }
 
-// The same, but that variables may stay taken and, where memory runs out, bindings and postings may
-// be left.
+// The same, but that variables may stay taken and bindings be left and, where memory runs out,
+// postings and pending nodes too.
 fn search_below<'a>(
     search: &Search<'a>,
     node: NodeId,
     scratch: &mut Scratch,
     trail: &mut Trail<&'a [Cell]>,
     taken: &mut Taken,
+    pending: &mut Vec<Pending>,
     out: &mut Vec<Posting>,
 ) -> Result<u64, AllocError>
     requires node { IsNode search.now.tree.now node }
@@ -232,20 +285,22 @@ fn search_below<'a>(
     requires above { ShowsAbove search.now.slots trail.old.pairs search.now.tree.now node
         search.now.query.now }
     requires table { IsTableFor search.now.relation search.now.slots taken.old }
+    requires empty { pending.old.items ≡ [] }
     ensures found { IfOk result (HasFound search.now node out.old.items out.new.items) }
-    ensures same { OnOk result (trail.new.pairs ≡ trail.old.pairs) }
     ensures grows { Grows trail.old.pairs trail.new.pairs }
     ensures out_grows { Grows out.old.items out.new.items }
     ensures slots { trail.new.slots ≡ trail.old.slots }
     ensures table { taken.new.slots ≡ taken.old.slots }
-    ensures full { OnErr result (LacksRoom search.now node trail.old.pairs scratch.old out.old) }
+    ensures full { OnErr result (LacksRoom search.now node trail.old.pairs scratch.old pending.old
+        out.old) }
     ensures keeps { IsNoLessRoom scratch.old scratch.new }
+    ensures list_room { vec_capacity pending.old ≤ vec_capacity pending.new }
     ensures room { vec_capacity out.old ≤ vec_capacity out.new }
 {
     if !keeps_apart(search, trail, taken) {
         return Ok(0);
     }
-    visit(search, node, scratch, trail, taken, out)
+    visit_all(search, node, scratch, trail, taken, pending, out)
 }
 
 // Whether the bindings of the nodes above leave them open, where these are solved. What their

@@ -3,7 +3,8 @@
 //!
 //! It goes from a node to its children and makes their bindings fit, over a trail on which the
 //! bindings of all nodes above are solved. Below a node whose bindings don't fit nothing is looked
-//! at. Where a node's open indicators can be anything, all below it is walked and not solved.
+//! at. Where a node's open indicators can be anything, all below it is walked and not solved. The
+//! nodes that are still to be visited stand in a list, so no depth of a tree is too much.
 #![tactic(auto)]
 
 mod attempts;
@@ -12,6 +13,7 @@ mod descent;
 mod ends;
 mod heads;
 mod memory;
+mod pending;
 mod rights;
 mod search;
 mod subtrees;
@@ -21,6 +23,7 @@ mod variants;
 pub use counting::Counted;
 pub use descent::{count, descend, descend_with, retrieve, slots_for};
 pub use memory::SearchMemory;
+pub use pending::Pending;
 pub use rights::longest_right;
 pub use si_flat::Kind;
 pub use taken::Taken;

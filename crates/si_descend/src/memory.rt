@@ -1,6 +1,7 @@
 // What one search of a tree lends to the next.
 ghost use Rattle.std.specs.Prelude.{◌≡◌, [], IfOk};
 
+use crate::pending::Pending;
 use si_flat::Cell;
 use si_trail::{SlotMemory, Trail};
 use std::alloc::{AllocError, Global};
@@ -12,6 +13,7 @@ use std::marker::Model;
 pub struct SearchMemory {
     alloc: Global,
     slots: SlotMemory,
+    pending: Vec<Pending>,
 }
 
 impl Model for SearchMemory {
@@ -26,6 +28,7 @@ impl SearchMemory {
         SearchMemory {
             alloc,
             slots: SlotMemory::new(alloc),
+            pending: Vec::new(alloc),
         }
     }
 
@@ -37,8 +40,14 @@ impl SearchMemory {
         Trail::with_memory(self.alloc, memory, slots)
     }
 
-    /// What the trail took serves another search.
-    pub(crate) fn take_back(&mut self, trail: Trail<&[Cell]>) {
+    /// A list for the nodes that are still to be visited.
+    pub(crate) fn pending(&mut self) -> Vec<Pending> {
+        std::mem::replace(&mut self.pending, Vec::new(self.alloc))
+    }
+
+    /// What the trail and the list took serves another search.
+    pub(crate) fn take_back(&mut self, trail: Trail<&[Cell]>, pending: Vec<Pending>) {
         self.slots = trail.into_memory();
+        self.pending = pending;
     }
 }

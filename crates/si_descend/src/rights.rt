@@ -1,32 +1,45 @@
 // How long the right sides of a tree are.
-ghost use Rattle.std.specs.Prelude.{◌≡◌};
-ghost use Rattle.si_legal.specs.Legal.{IsLegal};
-ghost use Rattle.si_tree.specs.Reading.{IsNode};
-ghost use Rattle.si_descend.specs.Lending.{AreRightsNoLongerThan, AreRightsBelowNoLongerThan, most_cells};
+ghost use Rattle.std.specs.Prelude.{◌≡◌, ◌++◌, IfOk, OnOk};
+ghost use Rattle.si_tree.specs.Reading.{AtNode, IsNode, children_of};
+ghost use Rattle.si_descend.specs.Lending.{AreRightsNoLongerThan, most_cells};
 
 use si_flat::Bindings;
 use si_tree::{NodeId, Tree};
+use std::alloc::{AllocError, Global};
 
 /// The number of cells of the longest right side in the tree. So much room is to be made for each
 /// value that a descent may solve, where the query has no more cells. It goes through all nodes.
-pub fn longest_right(tree: &Tree) -> usize
-    ensures { AreRightsNoLongerThan result tree.now }
+///
+/// # Errors
+///
+/// `AllocError` where there is no memory for a list of nodes.
+pub fn longest_right(alloc: Global, tree: &Tree) -> Result<usize, AllocError>
+    ensures { IfOk result (λ n. AreRightsNoLongerThan n tree.now) }
 {
-    longest_below(tree, tree.root())
+    let mut left = Vec::new(alloc);
+    left.push(tree.root())?;
+    let mut longest = 0;
+    for _ in 0..tree.counts().nodes {
+        let Some(node) = left.pop() else {
+            return Ok(longest);
+        };
+        let own = longest_of(tree.bindings(node));
+        longest = longest.max(own);
+        push_children(tree, node, &mut left)?;
+    }
+    Ok(longest)
 }
 
-// That of the bindings of a node and of all nodes below it.
-fn longest_below(tree: &Tree, node: NodeId) -> usize
-    requires legal { IsLegal tree.now }
-    requires node { IsNode tree.now node }
-    ensures { AreRightsBelowNoLongerThan result tree.now node }
+// Puts the children of a node after those that are left.
+fn push_children(tree: &Tree, node: NodeId, left: &mut Vec<NodeId>) -> Result<(), AllocError>
+    requires { IsNode tree.now node }
+    ensures { OnOk result (AtNode tree.now node (λ n.
+        left.new.items ≡ left.old.items ++ children_of n.content)) }
 {
-    let mut longest = longest_of(tree.bindings(node));
     for child in tree.children(node) {
-        let below = longest_below(tree, *child);
-        longest = longest.max(below);
+        left.push(*child)?;
     }
-    longest
+    Ok(())
 }
 
 // That of these bindings.

@@ -1,26 +1,20 @@
 // Whole subtrees that are open: they are walked, and no binding is solved.
-ghost use Rattle.std.specs.Prelude.{◌≡◌, ◌≤◌, IfOk, None, IsFalse, IsTrue, OnErr, false, vec_capacity};
-ghost use Rattle.si_defs.specs.Substitutions.{Grows};
-ghost use Rattle.si_tree.specs.Reading.{AtNode, IsNode, split_of};
+ghost use Rattle.std.specs.Prelude.{◌≡◌, IsTrue, false};
+ghost use Rattle.si_tree.specs.Reading.{IsNode};
 ghost use Rattle.si_unify.specs.Solving.{AllowsSolving};
-ghost use Rattle.si_descend.specs.Counting.{CountsMore, HasCounted};
-ghost use Rattle.si_descend.specs.Searching.{AreOpenBelow, HasComeTo, HasFound, IsOpenAt, IsReady, LacksPlace};
-ghost use Rattle.si_descend.specs.Subtrees.{wants_symbol, HasNoPostings};
+ghost use Rattle.si_descend.specs.Searching.{AreOpenBelow, HasComeTo, IsOpenAt, IsReady};
+ghost use Rattle.si_descend.specs.Subtrees.{wants_symbol};
 
-use crate::counting::Counted;
 use crate::ends::{Ends, are_clear, find_ends_below};
 use crate::heads::Wanted;
 use crate::search::Search;
 use si_flat::Cell;
-use si_legal::Posting;
 use si_trail::Trail;
 use si_tree::NodeId;
-use std::alloc::AllocError;
 
 /// Whether all nodes below an open node are known to be open: it is a leaf, or instances or
 /// unifiable terms are sought, and all open indicators stand for different variables of which
-/// nothing else is known. Where it can't be said, the node has children, and no postings of its
-/// own.
+/// nothing else is known.
 #[inline(always)]
 pub(crate) fn is_open_below<'a>(
     search: &Search<'a>,
@@ -33,8 +27,7 @@ pub(crate) fn is_open_below<'a>(
     requires solving { AllowsSolving search.now.slots trail.now.pairs trail.now.slots }
     requires there { HasComeTo search.now (Some node) trail.now.pairs }
     requires opened { IsOpenAt search.now node }
-    ensures below { IsTrue result → AreOpenBelow search.now node }
-    ensures inner { IsFalse result → HasNoPostings search.now.tree.now node }
+    ensures { IsTrue result → AreOpenBelow search.now node }
 {
     let Some(_) = search.tree.split(node) else {
         return true;
@@ -75,67 +68,5 @@ fn has_symbol(wanted: Option<Wanted>) -> bool
             _ => false,
         },
         None => false,
-    }
-}
-
-/// Appends all postings below a node or at it, where all nodes there are open, and counts these
-/// nodes.
-///
-/// Where memory runs out, postings may be left after the old ones.
-pub(crate) fn append_all(
-    search: &Search<'_>,
-    node: NodeId,
-    out: &mut Vec<Posting>,
-) -> Result<u64, AllocError>
-    requires node { IsNode search.now.tree.now node }
-    requires ready { IsReady search.now }
-    requires opened { AreOpenBelow search.now node }
-    ensures found { IfOk result (HasFound search.now node out.old.items out.new.items) }
-    ensures out_grows { Grows out.old.items out.new.items }
-    ensures full { OnErr result (LacksPlace search.now node out.old) }
-    ensures room { vec_capacity out.old ≤ vec_capacity out.new }
-{
-    search.tree.postings(node).append_to(out)?;
-    let mut below = 0;
-    for child in search.tree.children(node) {
-        below += append_all(search, *child, out)?;
-    }
-    Ok(1 + below)
-}
-
-/// Adds an open leaf and its postings to what was counted before.
-#[inline(always)]
-pub(crate) fn count_leaf(search: &Search<'_>, leaf: NodeId, counted: &mut Counted)
-    requires node { IsNode search.now.tree.now leaf }
-    requires leaf { AtNode search.now.tree.now leaf (λ n. split_of n.content ≡ None) }
-    requires ready { IsReady search.now }
-    requires opened { IsOpenAt search.now leaf }
-    ensures { CountsMore search.now leaf counted.old counted.new }
-{
-    let own = search.tree.postings(leaf).len();
-    counted.add(Counted {
-        passed: 1,
-        answers: own as u64,
-    });
-}
-
-/// Counts all nodes and postings below a node or at it, where all nodes there are open.
-pub(crate) fn count_all(search: &Search<'_>, node: NodeId) -> Counted
-    requires node { IsNode search.now.tree.now node }
-    requires ready { IsReady search.now }
-    requires opened { AreOpenBelow search.now node }
-    ensures { HasCounted search.now node result }
-{
-    let own = search.tree.postings(node).len();
-    let mut passed = 0;
-    let mut answers: u64 = 0;
-    for child in search.tree.children(node) {
-        let more = count_all(search, *child);
-        passed += more.passed;
-        answers = answers.saturating_add(more.answers);
-    }
-    Counted {
-        passed: 1 + passed,
-        answers: answers.saturating_add(own as u64),
     }
 }

@@ -1,0 +1,74 @@
+-- Nodes that a search is still to visit.
+use Rattle.std.specs.Borrow.{Bor}
+use Rattle.std.specs.Prelude.{◌≡◌, ℕ, ◌≤◌, ◌⊎◌, Bool, true, false, ⊤, List, ◌++◌, length, map, take, Vec, vec_capacity}
+use Rattle.std.specs.List.{AllByRecursion}
+use Rattle.si_defs.specs.Substitutions.{IsAmong, AreDistinct}
+use Rattle.si_trail.specs.Trails.{Trail}
+use Rattle.si_flat.specs.declared.Cell.{Cell}
+use Rattle.si_legal.specs.declared.Posting.{Posting}
+use Rattle.si_legal.specs.Counts.{node_count}
+use Rattle.si_unify.specs.Rooms.{SolverRoom}
+use Rattle.si_unify.specs.Solving.{Pairs}
+use Rattle.si_tree.specs.Reading.{IsNode, AtNode, children_of}
+use Rattle.si_descend.specs.declared.pending.Pending.{Pending}
+use Rattle.si_descend.specs.declared.search.Search.{Search}
+use Rattle.si_descend.specs.Lending.{IsEnoughForTree, HasRoomForAnswers}
+use Rattle.si_descend.specs.Searching.{AreOpenBelow, IsAboveNode, IsClosedAt, IsOpenAt}
+
+-- ---- one of them
+-- the trail as it was when it had so many bindings
+abbrev pub cut : {T : Type 0} → ℕ → Trail T → Trail T
+cut n trail = record { slots = trail.slots; pairs = take n trail.pairs }
+
+-- The bindings of the nodes above it are solved. Or all nodes below it and at it are known to be
+-- open.
+abbrev pub MayVisit : Search → ℕ → Trail (Bor (List Cell)) → Trail ⊤ → Bool → Type 0
+MayVisit search key trail taken false = IsAboveNode search key trail taken
+MayVisit search key trail taken true = IsNode search.tree.now key × AreOpenBelow search key
+
+-- so it is once the trails are as long as they were above it
+pub record IsDue (search : Search) (trail : Trail (Bor (List Cell))) (taken : Trail ⊤)
+    (p : Pending) : Type 0 where
+  pub mark : p.mark ≤ length trail.pairs
+  pub taken_mark : p.taken_mark ≤ length taken.pairs
+  pub may : MayVisit search p.node (cut p.mark trail) (cut p.taken_mark taken) p.whole
+
+-- ---- the children of an open node
+-- these are children of the node, and each other child is closed
+pub record AreToVisit (search : Search) (key : ℕ) (tops : List ℕ) : Type 0 where
+  pub distinct : AreDistinct tops
+  pub within : AtNode search.tree.now key (λ n. (child : ℕ) → IsAmong tops child
+      → IsAmong (children_of n.content) child)
+  pub others : AtNode search.tree.now key (λ n. (child : ℕ) → IsAmong (children_of n.content) child
+      → IsAmong tops child ⊎ IsClosedAt search child)
+
+abbrev pub pending_at : ℕ → ℕ → Bool → List ℕ → List Pending
+pending_at mark taken_mark whole tops =
+    map (λ key. record { node = key; mark = mark; taken_mark = taken_mark; whole = whole }) tops
+
+-- those are put after the nodes that were pending
+pub record Leaves (search : Search) (key : ℕ) (trail : Trail (Bor (List Cell))) (taken : Trail ⊤)
+    (old new : List Pending) : Type 0 where
+  pub tops : List ℕ
+  pub whole : Bool
+  pub visit : AreToVisit search key tops
+  pub pushed : new ≡ old ++ pending_at (length trail.pairs) (length taken.pairs) whole tops
+  pub due : AllByRecursion (IsDue search trail taken)
+      (pending_at (length trail.pairs) (length taken.pairs) whole tops)
+
+-- ---- one step
+-- whether the node is open was told, and its children are pending where it is
+abbrev pub HasStepped : Search → ℕ → Trail (Bor (List Cell)) → Trail ⊤ → List Pending
+    → List Pending → Bool → Type 0
+HasStepped search key trail taken old new true =
+    IsOpenAt search key × Leaves search key trail taken old new
+HasStepped search key trail taken old new false = IsClosedAt search key × (new ≡ old)
+
+-- ---- what is lacking where memory runs out
+-- room for what is found below the node, for all nodes to be pending, or to solve
+abbrev pub LacksRoom : {A B : Type 0} → Search → ℕ → Pairs → SolverRoom → Vec Pending A
+    → Vec Posting B → Type 0
+LacksRoom search top pairs room pending out =
+    (n : ℕ) → IsEnoughForTree n search.tree.now search.slots pairs room
+    → node_count search.tree.now ≤ vec_capacity pending
+    → HasRoomForAnswers search.tree.now top search.relation search.query.now out → ⊥

@@ -57,7 +57,7 @@ pub record Leaves (search : Search) (key : ℕ) (trail : Trail (Bor (List Cell))
       (pending_at (length trail.pairs) (length taken.pairs) whole tops)
 
 -- ---- one step
--- whether the node is open was told, and its children are pending where it is
+-- the answer says whether the node is open; where it is, its children are pending
 abbrev pub HasStepped : Search → ℕ → Trail (Bor (List Cell)) → Trail ⊤ → List Pending
     → List Pending → Bool → Type 0
 HasStepped search key trail taken old new true =

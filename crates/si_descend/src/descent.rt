@@ -61,7 +61,7 @@ pub fn descend<'a>(
     )
 }
 
-// The same with a list that is lent.
+// The same, with a list of nodes that is lent.
 fn descend_over<'a>(
     alloc: Global,
     tree: &'a Tree,
@@ -94,7 +94,7 @@ fn descend_over<'a>(
 }
 
 /// The same in memory that is lent, which has no less room in the end. The table is empty before
-/// and after.
+/// and after. What the list of nodes holds is thrown away.
 ///
 /// # Errors
 ///

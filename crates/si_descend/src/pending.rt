@@ -25,12 +25,12 @@ use std::alloc::AllocError;
 #[derive(Clone, Copy)]
 pub struct Pending {
     pub(crate) node: NodeId,
+    /// Whether all nodes below it and at it are known to be open.
+    pub(crate) whole: bool,
     /// How many bindings the nodes above it left.
     pub(crate) mark: usize,
     /// How many variables of the query were taken then.
     pub(crate) taken_mark: usize,
-    /// Whether all nodes below it and at it are known to be open.
-    pub(crate) whole: bool,
 }
 
 /// Visits a node that was pending, and tells whether it is open. Where it is, those of its children
@@ -77,7 +77,8 @@ pub(crate) fn step<'a>(
     Ok(true)
 }
 
-// Has the children of an open node wait, but for some that are closed. Its bindings are solved.
+// Puts the children of an open node into the list, but for some that are closed. Its bindings are
+// solved.
 fn push_open<'a>(
     search: &Search<'a>,
     node: NodeId,
@@ -108,7 +109,7 @@ fn push_open<'a>(
     }
 }
 
-// Has all children wait, where all nodes below are open.
+// Puts all children into the list, where all nodes below are open.
 #[inline(always)]
 fn push_all<'a>(
     search: &Search<'a>,
@@ -141,7 +142,7 @@ fn push_all<'a>(
     Ok(())
 }
 
-// Has those wait that can be open, where they are tried in order.
+// Puts those into the list that can be open, where they are tried in order.
 #[inline(always)]
 fn push_in_order<'a>(
     search: &Search<'a>,

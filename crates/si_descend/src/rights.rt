@@ -19,6 +19,7 @@ pub fn longest_right(alloc: Global, tree: &Tree) -> Result<usize, AllocError>
     let mut left = Vec::new(alloc);
     left.push(tree.root())?;
     let mut longest = 0;
+    // There are no more turns than nodes.
     for _ in 0..tree.counts().nodes {
         let Some(node) = left.pop() else {
             return Ok(longest);

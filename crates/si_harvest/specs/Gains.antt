@@ -27,7 +27,7 @@ pub record Gained (rules : Rules) (start : List Clause) (loaded : Loaded)
   pub entries : loaded.entries ≡ length (state_entries gained)
 
 -- What is kept and counted goes on by some clauses, or none: the rules stay, no more is counted
--- than is kept, and what a load had gained from any start on, it has gained with these.
+-- than is kept, and whatever start a load's gains were counted from, they count on from there.
 pub record GainsOn (rules rules_now : Rules) (kept kept_now : List Clause)
     (loaded loaded_now : Loaded) : Type 0 where
   pub same : rules_now ≡ rules

@@ -128,7 +128,7 @@ fn copy_term(alloc: Global, term: &Term) -> Result<Term, AllocError>
     }
 }
 
-/// Equal terms. Up to three take one block, and none takes any.
+/// Equal terms. One to three take one block; an empty list takes none.
 #[cycle(copy)]
 fn copy_terms(alloc: Global, terms: &[Term]) -> Result<Terms, AllocError>
     ensures { IfOk result (λ ts. ts ≡ map term_of terms.now) }

@@ -34,7 +34,7 @@ pub struct Pending {
 }
 
 /// Visits a node that was pending, and tells whether it is open. Where it is, those of its children
-/// that can be open are pending afterwards, behind all that were.
+/// that can be open are pending afterwards, after all that were.
 ///
 /// The trails are first brought back to what they were above the node. Where memory runs out, some
 /// of the children may be pending.

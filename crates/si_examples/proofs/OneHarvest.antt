@@ -16,7 +16,7 @@ use Rattle.si_examples.specs.Entries.{fact, predicate}
 use Rattle.si_examples.specs.Harvests.{bounds, c, selecting, PlainFile, BigFile, MissingFile, NoMissingFile, FailedFile, TakenNameOfALoad, SelectedClause, OwnInclude, NoDepthOfOpenFile, DeepInclude, LateInclude, SecondLine, FirstWord}
 use Rattle.si_examples.proofs.Differ.{first_byte, texts_differ}
 use Rattle.si_examples.proofs.FirstWords.{word_differs}
-use Rattle.si_examples.proofs.Pieces.{space, word, sign, stands_first, nothing, first as at_front, next}
+use Rattle.si_examples.proofs.Pieces.{space, word, one_mark, stands_first, nothing, first as at_front, next}
 use Rattle.si_examples.proofs.FirstItems.{clause_begins, include_begins, one_begins, clause_tokens, spelled_out, faulty}
 
 -- the first file may be asked for
@@ -113,7 +113,7 @@ pub second_line : SecondLine
 second_line =
     fetched [] [] 0 [] (codes "a") (codes "cnf(c,axiom,p).\nfof(d,axiom,q).") (may_begin (bounds 31 1 1) (codes "a") (omega arith) (omega arith)) refl (omega arith)
     (attempt c ∷ []) (Some (foreign (codes "a") 2))
-    (accepted _ 1 [] c second (clause_begins (codes "c") (codes "p") (space 10 ∷ word (codes "fof") ∷ sign 40 ∷ word (codes "d") ∷ sign 44 ∷ word (codes "axiom") ∷ sign 44 ∷ word (codes "q") ∷ sign 41 ∷ sign 46 ∷ []) refl) tt first [] (Some (foreign (codes "a") 2))
+    (accepted _ 1 [] c second (clause_begins (codes "c") (codes "p") (space 10 ∷ word (codes "fof") ∷ one_mark 40 ∷ word (codes "d") ∷ one_mark 44 ∷ word (codes "axiom") ∷ one_mark 44 ∷ word (codes "q") ∷ one_mark 41 ∷ one_mark 46 ∷ []) refl) tt first [] (Some (foreign (codes "a") 2))
     (stuck _ _ _ (foreign (codes "a") 2) (
       refl,
       faulty second (codes "fof") _ foreign_next refl refl,

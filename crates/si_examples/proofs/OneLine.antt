@@ -17,7 +17,7 @@ use Rattle.si_examples.specs.Entries.{fact, predicate}
 use Rattle.si_examples.specs.Relations.{y, z, p_of}
 use Rattle.si_examples.specs.Lines.{AddedLine, CommentBehindWord, NoKindOfPattern, TreeLine, ExplainedQuery, NoTreeOfTerm, NoRelationToExplain, NoEmptySample, OwnLanguageAdded}
 use Rattle.si_examples.proofs.Differ.{differ, first_byte}
-use Rattle.si_examples.proofs.Pieces.{Piece, space, comment, token, word, sign, tokens_of, consists}
+use Rattle.si_examples.proofs.Pieces.{Piece, space, comment, token, word, one_mark, tokens_of, consists}
 use Rattle.si_examples.proofs.FirstWords.{word_differs, first_next, no_language}
 
 abbrev pub clause : Clause
@@ -25,7 +25,7 @@ clause = fact (codes "c") (predicate (codes "p") [])
 
 -- `cnf(c,axiom,p).`
 abbrev pub clause_pieces : List Piece
-clause_pieces = word (codes "cnf") ∷ sign 40 ∷ word (codes "c") ∷ sign 44 ∷ word (codes "axiom") ∷ sign 44 ∷ word (codes "p") ∷ sign 41 ∷ sign 46 ∷ []
+clause_pieces = word (codes "cnf") ∷ one_mark 40 ∷ word (codes "c") ∷ one_mark 44 ∷ word (codes "axiom") ∷ one_mark 44 ∷ word (codes "p") ∷ one_mark 41 ∷ one_mark 46 ∷ []
 
 is_clause : IsClause clause (tokens_of clause_pieces)
 is_clause =
@@ -74,7 +74,7 @@ tree_line = record {
 
 -- `p(Y,Z)`
 abbrev atom_pieces : List Piece
-atom_pieces = word (codes "p") ∷ sign 40 ∷ token Upper (codes "Y") ∷ sign 44 ∷ token Upper (codes "Z") ∷ sign 41 ∷ []
+atom_pieces = word (codes "p") ∷ one_mark 40 ∷ token Upper (codes "Y") ∷ one_mark 44 ∷ token Upper (codes "Z") ∷ one_mark 41 ∷ []
 
 is_atom : IsLiteral (record { positive = true; atom = p_of y z }) (tokens_of atom_pieces)
 is_atom =

@@ -20,7 +20,7 @@ use Rattle.si_steps.proofs.CommandLaws.{IsOf, of_word}
 use Rattle.si_lex.proofs.TokenLaws.{next_unique, blanks_none, begins_prefix, consists_unique}
 use Rattle.si_examples.specs.Steps.{HasOneReply, SilentLine, SilentComment, SilentOnly, OpenComment, UnknownWord, WordInQuotes, JoinedWord, WordAlone, OtherLanguageAdded, LanguageAlone, TooLong, TooLongBlank, NoMemoryWhereTooLong}
 use Rattle.si_examples.proofs.Differ.{differ, first_byte, texts_differ}
-use Rattle.si_examples.proofs.Pieces.{Piece, space, word, sign, tokens_of, consists, next, nothing}
+use Rattle.si_examples.proofs.Pieces.{Piece, space, word, one_mark, tokens_of, consists, next, nothing}
 use Rattle.si_examples.proofs.OpenComments.{open_comment, no_token_there}
 use Rattle.si_examples.proofs.OneLine.{command_next}
 
@@ -170,9 +170,9 @@ no_clause line ts c h command m = by (of_word Add command ts (subst (IsCommand c
 
 pub other_language_added : OtherLanguageAdded
 unfolding first_text
-other_language_added = by (consists (word (codes "add") ∷ space 32 ∷ word (codes "fof") ∷ sign 40 ∷ others) refl) where
+other_language_added = by (consists (word (codes "add") ∷ space 32 ∷ word (codes "fof") ∷ one_mark 40 ∷ others) refl) where
   others : List Piece
-  others = word (codes "a") ∷ sign 44 ∷ word (codes "axiom") ∷ sign 44 ∷ word (codes "p") ∷ sign 41 ∷ sign 46 ∷ []
+  others = word (codes "a") ∷ one_mark 44 ∷ word (codes "axiom") ∷ one_mark 44 ∷ word (codes "p") ∷ one_mark 41 ∷ one_mark 46 ∷ []
 
   line : Bytes
   line = codes "add fof(a,axiom,p)."
@@ -205,7 +205,7 @@ language_alone = wrong_where line (λ k. blanks_none line k (lower (codes "add")
   line = codes "add fof."
 
   c : Consists (codes "add fof.") (lower (codes "add") ∷ lower (codes "fof") ∷ full_stop ∷ [])
-  c = consists (word (codes "add") ∷ space 32 ∷ word (codes "fof") ∷ sign 46 ∷ []) refl
+  c = consists (word (codes "add") ∷ space 32 ∷ word (codes "fof") ∷ one_mark 46 ∷ []) refl
 
   b : Begins (codes "add fof.") (lower (codes "add") ∷ lower (codes "fof") ∷ full_stop ∷ []) c.rest
   b = c.begins

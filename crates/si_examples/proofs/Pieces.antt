@@ -20,8 +20,8 @@ pub data Piece : Type 0 where
 abbrev pub word : Bytes → Piece
 word text = token Lower text
 
-abbrev pub sign : ℕ → Piece
-sign c = token Mark (c ∷ [])
+abbrev pub one_mark : ℕ → Piece
+one_mark c = token Mark (c ∷ [])
 
 -- ---- one token
 abbrev spelling : TokenKind → Bytes → Bytes

@@ -31,7 +31,7 @@ TwoIntegers = Consists (codes "01") (integer (codes "0") ∷ integer (codes "1")
 abbrev pub NoOneInteger : Type 0
 NoOneInteger = (token : Token) → TokenAt (codes "01") token [] → ⊥
 
--- `X!=-3.` is four: a variable, a sign, an integer and a full stop
+-- `X!=-3.` is four: a variable, a mark, an integer and a full stop
 abbrev pub SignedInteger : Type 0
 SignedInteger =
     Consists (codes "X!=-3.")

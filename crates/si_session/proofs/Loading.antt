@@ -32,7 +32,7 @@ use Rattle.si_session.specs.declared.reply.ReplyLine as program
 use Rattle.si_session.specs.declared.stepped.Stepped.{Stepped}
 use Rattle.si_session.specs.Replies.{reply_line, misused_text}
 use Rattle.si_session.specs.Rejections.{ReportsFault, IsReportable, ReportsFaultOfLoad}
-use Rattle.si_session.specs.Session.{around, behind_owed, IsCounted, Writes, HasLoaded, LoadsInto, rightly_loaded, ran_out, view_of, holding}
+use Rattle.si_session.specs.Session.{around, behind_owed, HasCountedOwed, Writes, HasLoaded, LoadsInto, rightly_loaded, ran_out, view_of, holding}
 use Rattle.si_session.proofs.Acting.{holds_same, at_seam, is_reportable}
 
 -- ---- a clause that is refused
@@ -97,7 +97,7 @@ counted_for made misses bigs failures before now c f m b = λ i. record { calls 
 
 -- the load has no fault that is owed
 none_owed : (made : ℕ) (fault : Option Fault) (may_fail : Bool) (before now : LibraryCounts) → misses_in fault ≡ 0 → bigs_in fault ≡ 0 → failures_in fault ≡ 0
-    → now.calls ≡ raised_by made before.calls → faults_in now ≡ faults_in before → IsCounted may_fail (owed_for made fault) before now
+    → now.calls ≡ raised_by made before.calls → faults_in now ≡ faults_in before → HasCountedOwed may_fail (owed_for made fault) before now
 none_owed made fault may_fail before now misses bigs failures calls same = record {
   counts = counted_for made (misses_in fault) (bigs_in fault) (failures_in fault) before now calls
       (omega (arith, failures, ap (λ (c : Counts). c.faults) same)) (omega (arith, misses, ap (λ (c : Counts). c.misses) same)) (omega (arith, bigs, ap (λ (c : Counts). c.bigs) same));
@@ -105,15 +105,15 @@ none_owed made fault may_fail before now misses bigs failures calls same = recor
 }
 
 pub gained_counted : (made : ℕ) (may_fail : Bool) (before now : LibraryCounts) → now.calls ≡ raised_by made before.calls → faults_in now ≡ faults_in before
-    → IsCounted may_fail (owed_for made None) before now
+    → HasCountedOwed may_fail (owed_for made None) before now
 gained_counted made may_fail before now calls same = none_owed made None may_fail before now refl refl refl calls same
 
 module _ (rules : Rules) (made : ℕ) (fault : Fault) (may_fail : Bool) (before now : LibraryCounts) (calls : now.calls ≡ raised_by made before.calls) where
   -- of this fault
-  as_named : (named : Fault) → fault ≡ named → IsCounted may_fail (owed_for made (Some named)) before now → IsCounted may_fail (owed_for made (Some fault)) before now
-  as_named named n h = subst (λ f. IsCounted may_fail (owed_for made (Some f)) before now) (sym n) h
+  as_named : (named : Fault) → fault ≡ named → HasCountedOwed may_fail (owed_for made (Some named)) before now → HasCountedOwed may_fail (owed_for made (Some fault)) before now
+  as_named named n h = subst (λ f. HasCountedOwed may_fail (owed_for made (Some f)) before now) (sym n) h
 
-  fault_counted : (e : HarvestFault) → NamesFault rules e fault → HasFaultCause may_fail (faults_in before) (faults_in now) e → IsCounted may_fail (owed_for made (Some fault)) before now
+  fault_counted : (e : HarvestFault) → NamesFault rules e fault → HasFaultCause may_fail (faults_in before) (faults_in now) e → HasCountedOwed may_fail (owed_for made (Some fault)) before now
   fault_counted (harvest_fault.Syntax file line) n h = as_named (malformed file line) n (none_owed made (Some (malformed file line)) may_fail before now refl refl refl calls h)
   fault_counted (harvest_fault.Language file line) n h = as_named (foreign file line) n (none_owed made (Some (foreign file line)) may_fail before now refl refl refl calls h)
   fault_counted (harvest_fault.Rejected r) n h =

@@ -3,9 +3,9 @@ use Rattle.std.proofs.Common.{◌≡◌, ℕ, ◌+◌, Bool, refl, ap, ◌∙◌
 use Rattle.si_steps.specs.Loads.{Owed, nothing, together}
 use Rattle.si_io.specs.declared.counts.LibraryCounts.{LibraryCounts}
 use Rattle.si_io.specs.Counts.{raised_by}
-use Rattle.si_session.specs.Session.{behind_owed, IsCounted}
+use Rattle.si_session.specs.Session.{behind_owed, HasCountedOwed}
 
-pub counts_nothing : (counts : LibraryCounts) (may_fail : Bool) → IsCounted may_fail nothing counts counts
+pub counts_nothing : (counts : LibraryCounts) (may_fail : Bool) → HasCountedOwed may_fail nothing counts counts
 counts_nothing counts may_fail = record {
   counts = λ i. record { calls = still counts.calls i; faults = still counts.faults i; misses = still counts.misses i; bigs = still counts.bigs i };
   sure = λ never. refl;
@@ -24,8 +24,8 @@ behind_both one other counts =
       both : (m n count : ℕ) → raised_by n (raised_by m count) ≡ raised_by (m + n) count
       both m n count = omega arith
 
-pub counts_then : (may_fail : Bool) (before middle now : LibraryCounts) (one other : Owed) → IsCounted may_fail one before middle → IsCounted may_fail other middle now
-    → IsCounted may_fail (together one other) before now
+pub counts_then : (may_fail : Bool) (before middle now : LibraryCounts) (one other : Owed) → HasCountedOwed may_fail one before middle → HasCountedOwed may_fail other middle now
+    → HasCountedOwed may_fail (together one other) before now
 counts_then may_fail before middle now one other h k = record {
   counts = k.counts ∙ ap (behind_owed other) h.counts ∙ behind_both one other before;
   sure = λ never. omega (arith, h.sure never, k.sure never);

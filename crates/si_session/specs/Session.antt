@@ -120,7 +120,7 @@ behind_owed owed counts = record {
 }
 
 -- Exactly what is owed to the library was counted. A failure is owed only where it may fail.
-pub record IsCounted (may_fail : Bool) (owed : Owed) (before now : LibraryCounts) : Type 0 where
+pub record HasCountedOwed (may_fail : Bool) (owed : Owed) (before now : LibraryCounts) : Type 0 where
   pub counts : now ≡ behind_owed owed before
   pub sure : IsFalse may_fail → owed.failures ≡ 0
 
@@ -151,7 +151,7 @@ pub record Steps (old new : View) (request : Request) (outcome : Stepped)
   pub own_trees : KeepsToTrees old new request reply
   pub written : Writes outcome reply before.sink after.sink
   pub counted :
-      IsCounted before.library.may_fail owed before.library.counts after.library.counts
+      HasCountedOwed before.library.may_fail owed before.library.counts after.library.counts
   pub library : KeepsFiles before.library after.library
 
 -- ---- parts of a step
@@ -190,11 +190,11 @@ pub data HasLoaded (setting : Setting) (file : Bytes) (old new : State) (outcome
   rightly_loaded : (reply : Reply) (owed : Owed)
       → PerformsLoad setting before.library.files file old reply owed new
       → Writes outcome reply before.sink after.sink
-      → IsCounted before.library.may_fail owed before.library.counts after.library.counts
+      → HasCountedOwed before.library.may_fail owed before.library.counts after.library.counts
       → HasLoaded setting file old new outcome before after
   ran_out : (owed : Owed) → OwesFetches setting before.library.files file old owed → new ≡ old
       → Writes outcome (memory_line ∷ []) before.sink after.sink
-      → IsCounted before.library.may_fail owed before.library.counts after.library.counts
+      → HasCountedOwed before.library.may_fail owed before.library.counts after.library.counts
       → HasLoaded setting file old new outcome before after
 
 -- the same of an index, under these limits

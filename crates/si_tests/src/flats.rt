@@ -1,7 +1,6 @@
 // Literals as flat terms, over a table of one symbol, made of terms and read from tokens.
 ghost use Rattle.std.specs.Prelude.{◌≡◌, ◌≤◌, [], ◌∷◌, length};
 ghost use Rattle.si_defs.specs.Clauses.{IsSoundPattern};
-ghost use Rattle.si_defs.specs.Symbols.{same_symbol};
 ghost use Rattle.si_defs.specs.declared.TheConstants.{MOST_BYTES};
 ghost use Rattle.si_term.specs.Meaning.{pattern_of};
 ghost use Rattle.si_term.specs.Terms.{symbol_of};
@@ -22,24 +21,11 @@ struct OneSymbol {
     symbol: Sym,
 }
 
-fn same(a: &Sym, b: &Sym) -> bool
-    ensures { result ≡ same_symbol (symbol_of a.now) (symbol_of b.now) }
-{
-    a.kind == b.kind
-        && a.side == b.side
-        && a.arity == b.arity
-        && a.text.as_bytes() == b.text.as_bytes()
-}
-
 impl SymTable for OneSymbol {
     ghost pairs = { λ t. (symbol_of t.symbol, 4) ∷ [] };
 
     fn id_of(&self, sym: &Sym) -> Option<u32> {
-        if same(sym, &self.symbol) {
-            Some(4)
-        } else {
-            None
-        }
+        if sym.is(&self.symbol) { Some(4) } else { None }
     }
 
     fn sym_at(&self, id: u32) -> Option<&Sym> {

@@ -15,7 +15,7 @@ use Rattle.si_io.specs.Counts.{raised}
 use Rattle.si_io.specs.Shown.{SinkShown}
 use Rattle.si_io.specs.Sends.{SendsAll}
 use Rattle.si_io.proofs.Sends.{SendsAll_then}
-use Rattle.si_session.specs.Session.{View, Around, Writes, Steps, CountsSinkFault, IsCounted}
+use Rattle.si_session.specs.Session.{View, Around, Writes, Steps, CountsSinkFault, HasCountedOwed}
 use Rattle.si_session.proofs.Owing.{counts_nothing, counts_then}
 use Rattle.si_session.specs.declared.stepped.Stepped.{Stepped}
 use Rattle.si_session.specs.declared.stepped.Stepped.TheVariants.{Answered, Refused, Silent, SinkFailed}
@@ -37,7 +37,7 @@ owed_none now = record { counts = counts_nothing now.library.counts now.library.
 pub owed_then : (x y z : Around) (one other : Owed) → CountsOwed one x y → CountsOwed other y z → CountsOwed (together one other) x z
 owed_then x y z one other h k = record {
   counts = counts_then x.library.may_fail x.library.counts y.library.counts z.library.counts one other h.counts
-      (subst (λ b. IsCounted b other y.library.counts z.library.counts) h.same k.counts);
+      (subst (λ b. HasCountedOwed b other y.library.counts z.library.counts) h.same k.counts);
   same = k.same ∙ h.same;
 }
 

@@ -8,7 +8,7 @@ use Rattle.si_steps.specs.Replies.{Reply, is_refusal}
 use Rattle.si_steps.specs.Runs.{ended, Splits, lines_at_end, Request, requests, IsOutput, IsOutputTo}
 use Rattle.si_state.specs.Harvest.{Files}
 use Rattle.si_steps.specs.Loads.{Owed}
-use Rattle.si_session.specs.Session.{Around, around, IsCounted}
+use Rattle.si_session.specs.Session.{Around, around, HasCountedOwed}
 use Rattle.si_io.specs.Counts.{raised}
 use Rattle.si_io.specs.Faults.{Rose}
 use Rattle.si_io.specs.Gives.{Gives}
@@ -28,7 +28,7 @@ use Rattle.stindex.specs.declared.status.Status.TheVariants.{Ended, Refused, Usa
 -- fail.
 pub record CountsOwed (owed : Owed) (before after : Around) : Type 0 where
   pub counts :
-      IsCounted before.library.may_fail owed before.library.counts after.library.counts
+      HasCountedOwed before.library.may_fail owed before.library.counts after.library.counts
   pub same : after.library.may_fail ≡ before.library.may_fail
 
 -- An output of these words and lines was written whole, the trees that it shows are such as hold

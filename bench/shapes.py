@@ -9,7 +9,7 @@ the session of this size into the current folder, as the files `before` and `who
 import sys
 from pathlib import Path
 from random import Random
-from typing import Callable, NamedTuple
+from typing import Callable, Iterable, NamedTuple
 
 RELATIONS = ("instances", "generalizations", "variants", "unifiable")
 LETTERS = "abcdefghijklmnopqrstuvwxyzABCDEFGHIJKLMNOPQRSTUVWXYZ0123456789"
@@ -278,19 +278,26 @@ HITS = (
 # Trees
 
 
-def come_and_go(clauses: Callable[[int], list[str]], name: str, size: int, most: float = 2.3) -> dict[str, Shape]:
-    """Clauses c0, c1 and so on that are added, and that are removed in three orders."""
-    orders = {
-        "the first one first": lambda n: range(n),
-        "the last one first": lambda n: range(n - 1, -1, -1),
-        "in a scattered order": lambda n: (number * 7919 % n for number in range(n)),
-    }
-    removed = {
+ORDERS: dict[str, Callable[[int], Iterable[int]]] = {
+    "the first one first": lambda n: range(n),
+    "the last one first": lambda n: range(n - 1, -1, -1),
+    "in a scattered order": lambda n: (number * 7919 % n for number in range(n)),
+}
+FROM_THE_MIDDLE = {"the middle one first": lambda n: sorted(range(n), key=lambda number: abs(2 * number - n))}
+
+
+def go(clauses: Callable[[int], list[str]], name: str, size: int, most: float = 2.3, orders=ORDERS) -> dict[str, Shape]:
+    """Clauses c0, c1 and so on that are there, and that are removed in some orders."""
+    return {
         f"{name}, removed, {order}": Shape(size, lambda n, numbers=numbers: lines(
             *(f"remove c{number}" for number in numbers(n)), before=clauses(n)), most=most)
         for order, numbers in orders.items()
     }
-    return {f"{name}, added": Shape(size, lambda n: lines(*clauses(n)), most=most)} | removed
+
+
+def come_and_go(clauses: Callable[[int], list[str]], name: str, size: int, most: float = 2.3) -> dict[str, Shape]:
+    """Clauses that are added, and that are removed in three orders."""
+    return {f"{name}, added": Shape(size, lambda n: lines(*clauses(n)), most=most)} | go(clauses, name, size, most)
 
 
 def wide_node(n: int) -> list[str]:
@@ -301,6 +308,22 @@ def wide_node(n: int) -> list[str]:
 def variants(n: int) -> list[str]:
     """Clauses that share one leaf, each with variables of its own."""
     return each(add("p(X#)", "c#"), n)
+
+
+def come_again(n: int) -> list[str]:
+    """Clauses that share one leaf of each tree, and that went, the first one first, and came again. What went last is
+    used again first, so their keys fall."""
+    clauses = each(add("p(f(X#))", "c#"), n)
+    return [*clauses, *each("remove c#", n), *clauses]
+
+
+def turns(n: int) -> Session:
+    """Of n clauses of one leaf the one in the middle goes and another comes, n times."""
+    names, measured = each("c#", n), []
+    for number in range(n):
+        measured += [f"remove {names.pop(n // 2)}", add("p(f(X))", f"d{number}")]
+        names.append(f"d{number}")
+    return lines(*measured, before=each(add("p(f(X#))", "c#"), n))
 
 
 def round_a_wide_term(n: int) -> str:
@@ -322,6 +345,8 @@ TREES = (
         *each(f"{r} lit p(a#)", n), before=wide_node(n))) for relation in RELATIONS}
     | every_relation("a wide node, a child that isn't there", 2_000, wide_node, "lit p(b)")
     | come_and_go(variants, "one leaf", 2_000)
+    | go(come_again, "one leaf whose keys came back", 2_000, orders=ORDERS | FROM_THE_MIDDLE)
+    | {"one leaf, the middle one removed and another added, in turn": Shape(2_000, turns)}
     | every_relation("one leaf", 500, variants, "lit p(U)")
     | come_and_go(chain_of_splits, "a chain of splits", 60, 4.6)
     | {f"a chain of splits: explain {relation}": Shape(60, lambda n, r=relation: lines(

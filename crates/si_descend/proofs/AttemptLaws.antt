@@ -1,5 +1,5 @@
 -- Which children of a node were tried, place by place, and that the others are closed.
-use Rattle.std.proofs.Common.{◌≡◌, ◌⊎◌, inl, inr, ℕ, zero, suc, ◌+◌, ◌-◌, ◌^◌, ◌<◌, ◌≤◌, false, List, [], ◌∷◌, ◌++◌, Option, None, Some, length, slice_get, refl, ap, sym, ◌∙◌, subst, arith}
+use Rattle.std.proofs.Common.{◌≡◌, ◌⊎◌, inl, inr, ℕ, zero, suc, ◌+◌, ◌-◌, ◌^◌, ◌<◌, ◌≤◌, List, [], ◌∷◌, ◌++◌, Option, None, Some, length, slice_get, refl, ap, sym, ◌∙◌, subst, arith}
 use Rattle.std.specs.Bool.{⊤}
 use Rattle.std.specs.Borrow.{Bor}
 use Rattle.std.specs.List.{AllByRecursion}
@@ -33,7 +33,7 @@ use Rattle.si_descend.specs.declared.heads.Wanted.{Wanted}
 use Rattle.si_descend.specs.declared.search.Search.{Search}
 use Rattle.si_descend.specs.Attempts.{head_at, wanted_of, place_count, HasHeadBelow, AreHeadsFor, HasPlaces, IsTried, IsTriedBefore, AreAttempts}
 use Rattle.si_descend.specs.declared.pending.Pending.{Pending}
-use Rattle.si_descend.specs.Pending.{IsDue, Leaves, pending_at}
+use Rattle.si_descend.specs.Pending.{IsDue, Leaves, like, pending_at}
 use Rattle.si_descend.specs.Heads.{SplitsBy, IsWanted, RulesOut}
 use Rattle.si_descend.specs.Searching.{IsReady, IsAtNode, IsClosedAt}
 use Rattle.si_descend.proofs.ExactLists.{distinct_both, no_more}
@@ -221,13 +221,13 @@ module _ (search : Search) (ready : IsReady search) (key : ℕ) (node : Node Ter
         by (ByHeads heads) (h, e, p) (k, f, q) = one_by_head h child c p (subst (λ n. IsChildBy search.tree.now key n c) (same_Some k h (sym f ∙ e)) q)
 
     -- ---- with those that are pending
-    module _ (mark taken_mark : ℕ) (old : List Pending) where
-      pub one_more_pending : (place child : ℕ) (items new : List Pending) → place < place_count a → IsTried search key a place child → IsUnderway search key a place (λ tried. items ≡ old ++ pending_at mark taken_mark false tried) → new ≡ items ++ record { node = child; mark = mark; taken_mark = taken_mark; whole = false } ∷ [] → IsUnderway search key a (place + 1) (λ tried. new ≡ old ++ pending_at mark taken_mark false tried)
+    module _ (marks : Pending) (old : List Pending) where
+      pub one_more_pending : (place child : ℕ) (items new : List Pending) → place < place_count a → IsTried search key a place child → IsUnderway search key a place (λ tried. items ≡ old ++ like marks tried) → new ≡ items ++ record { node = child; mark = marks.mark; taken_mark = marks.taken_mark; whole = marks.whole } ∷ [] → IsUnderway search key a (place + 1) (λ tried. new ≡ old ++ like marks tried)
       one_more_pending place child items new within t (tried, were, e) f =
-          (tried ++ child ∷ [], one_more_tried place child tried within t were, one_pending_more old items new mark taken_mark false tried child e f)
+          (tried ++ child ∷ [], one_more_tried place child tried within t were, one_pending_more old items new marks tried child e f)
 
       -- they are no more than there are children
-      pub few_pending : (place child : ℕ) (items : List Pending) → place < place_count a → IsTried search key a place child → IsUnderway search key a place (λ tried. items ≡ old ++ pending_at mark taken_mark false tried) → length items + 1 ≤ length old + length (children_of node.content)
+      pub few_pending : (place child : ℕ) (items : List Pending) → place < place_count a → IsTried search key a place child → IsUnderway search key a place (λ tried. items ≡ old ++ like marks tried) → length items + 1 ≤ length old + length (children_of node.content)
       few_pending place child items within t (tried, were, e) =
           let next = one_more_tried place child tried within t were in
           omega (
@@ -235,22 +235,24 @@ module _ (search : Search) (ready : IsReady search) (key : ℕ) (node : Node Ter
             no_more (tried ++ child ∷ []) (children_of node.content) next.distinct (λ c b. (let w = next.before c b in tried_among w.0 c w.2)),
             length-append tried (child ∷ []),
             ap length e,
-            length-append old (pending_at mark taken_mark false tried),
-            length_at mark taken_mark false tried,
+            length-append old (like marks tried),
+            length_at marks tried,
           )
 
-      pub leaves_tried : (trail : Trail (Bor (List Cell))) (taken : Trail ⊤) → mark ≡ length trail.pairs → taken_mark ≡ length taken.pairs → IsAtNode search key trail taken → IsWanted search key trail.pairs (wanted_of a) → (place : ℕ) (new : List Pending) → place_count a ≤ place → IsUnderway search key a place (λ tried. new ≡ old ++ pending_at mark taken_mark false tried) → Leaves search key trail taken old new
-      leaves_tried trail taken e f at wanted place new through (tried, were, pushed) = record {
+      pub leaves_tried : (trail : Trail (Bor (List Cell))) (taken : Trail ⊤) → marks ≡ pending_at key trail taken → IsAtNode search key trail taken → IsWanted search key trail.pairs (wanted_of a) → (place : ℕ) (new : List Pending) → place_count a ≤ place → IsUnderway search key a place (λ tried. new ≡ old ++ like marks tried) → Leaves search (pending_at key trail taken) trail taken old new
+      leaves_tried trail taken e at wanted place new through (tried, were, pushed) = record {
         tops = tried;
-        whole = false;
+        marks = pending_at key trail taken;
         visit = record {
           distinct = were.distinct;
           within = λ n has' child b. subst (λ m. IsAmong (children_of m.content) child) (one_node search.tree.now key node n has has') (let w = were.before child b in tried_among w.0 child w.2);
           others = λ n has' child b. others child (subst (λ m. IsAmong (children_of m.content) child) (one_node search.tree.now key n node has' has) b);
         };
-        pushed = pushed ∙ ap (λ m. old ++ pending_at m taken_mark false tried) e ∙ ap (λ k. old ++ pending_at (length trail.pairs) k false tried) f;
-        due = all_at_once (IsDue search trail taken) (length trail.pairs) (length taken.pairs) false tried
-            (λ child b. (let w = were.before child b in due_at_once search child trail taken false (goes_down search key child trail trail taken taken (tried_child w.0 child w.2) refl refl refl at)));
+        pushed = pushed ∙ ap (λ p. old ++ like p tried) e;
+        due = all_at_once (IsDue search trail taken) (pending_at key trail taken) tried
+            (λ child b. (let w = were.before child b in due_at_once search child trail taken (goes_down search key child trail trail taken taken (tried_child w.0 child w.2) refl refl refl at)));
+        mark = omega arith;
+        taken_mark = omega arith;
       } where
         others : (child : ℕ) → IsAmong (children_of node.content) child → IsAmong tried child ⊎ IsClosedAt search child
         others child b =

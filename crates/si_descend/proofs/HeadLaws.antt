@@ -1,5 +1,6 @@
 -- A child whose head can't be that of the split is closed.
-use Rattle.std.proofs.Common.{◌≡◌, ◌↔◌, ◌+◌, ◌<◌, inl, ℕ, Bool, true, false, not, IsTrue, List, ◌∷◌, Option, None, Some, refl, ap, sym, ◌∙◌, subst, arith}
+use Rattle.std.proofs.Common.{◌≡◌, ◌+◌, ◌<◌, inl, inr, ℕ, true, false, nat_eq, not, IsTrue, List, ◌∷◌, Option, None, Some, refl, ap, sym, ◌∙◌, subst, arith}
+use Rattle.std.proofs.lemmas.Bool.Decides.{eqb_tells}
 use Rattle.std.proofs.lemmas.Option.{same_Some}
 use Rattle.std.specs.Borrow.{Bor}
 use Rattle.si_defs.specs.Terms as terms
@@ -188,18 +189,13 @@ unwanted_out search key child (Some w) head splits unwanted is =
     (is.by.0, subst (λ n. ChildBinds search.tree.now child n is.by.0) same is.by.1, unwanted is.by.0 is.by.2)
 
 -- ---- answers
-pub not_told : (b : Bool) {P : Type 0} → IsTrue b ↔ P → IsTrue (not b) → P → ⊥
-not_told true h e p = by e where
+pub told_apart : (m n : ℕ) → IsTrue (not (nat_eq m n)) → m ≡ n → ⊥
+told_apart m n e = elim (eqb_tells m n) as (λ _. m ≡ n → ⊥) [
+  | inl same ↦ absurd (by (sym (ap not same.0) ∙ e))
+  | inr apart ↦ apart.1
+] where
   by : false ≡ true → ⊥
-  by q = cc
-not_told false h e p = by (h.1 p) where
-  by : false ≡ true → ⊥
-  by q = cc
-
-pub left_out : (b : Bool) {P : Type 0} → IsTrue b ↔ P → b ≡ false → P → ⊥
-left_out b h e p = by (sym e ∙ h.1 p) where
-  by : false ≡ true → ⊥
-  by q = cc
+  by p = cc
 
 -- ---- the split of a node
 pub split_wanted : (search : Search) (key : ℕ) (pairs : Pairs) (count split : ℕ) (v : Bor (List Cell)) (end : List Cell) (first : Cell) → AllowsSolving search.slots pairs count → AtNode search.tree.now key (λ n. split_of n.content ≡ Some split) → Some v ≡ value_at pairs (search.slots.query + search.slots.entry + split) → EndsAt search.slots pairs v.now end → first ≡ first_of end → IsSplitOf search key pairs split first

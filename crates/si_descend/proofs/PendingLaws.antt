@@ -2,7 +2,7 @@
 use Rattle.std.specs.Borrow.{Bor}
 use Rattle.std.specs.Bool.{⊤}
 use Rattle.std.specs.List.{AllByRecursion}
-use Rattle.std.proofs.Common.{◌≡◌, ◌⊎◌, inl, inr, ℕ, zero, suc, ◌+◌, ◌-◌, ◌<◌, ◌≤◌, Bool, false, List, [], ◌∷◌, ◌++◌, Some, length, map, take, drop, refl, ap, sym, ◌∙◌, subst, arith, append_assoc, append-nil}
+use Rattle.std.proofs.Common.{◌≡◌, ◌⊎◌, inl, inr, ℕ, zero, suc, ◌+◌, ◌-◌, ◌<◌, ◌≤◌, List, [], ◌∷◌, ◌++◌, Some, length, map, take, drop, refl, ap, sym, ◌∙◌, subst, arith, append_assoc, append-nil}
 use Rattle.std.proofs.lemmas.List.{map-append, length-append, take-append-le, length-take-le, take-append-drop, take_all}
 use Rattle.si_defs.specs.Substitutions.{IsAmong, Grows}
 use Rattle.si_defs.proofs.ListLaws.{all_front, all_back, all_append, all_with, all_weaker}
@@ -17,7 +17,7 @@ use Rattle.si_changes.proofs.Frames.{legal_nodes}
 use Rattle.si_tree.specs.Reading.{IsNode, children_of}
 use Rattle.si_descend.specs.declared.pending.Pending.{Pending}
 use Rattle.si_descend.specs.declared.search.Search.{Search}
-use Rattle.si_descend.specs.Pending.{cut, MayVisit, IsDue, AreToVisit, pending_at}
+use Rattle.si_descend.specs.Pending.{cut, MayVisit, IsDue, AreToVisit, like, pending_at}
 use Rattle.si_descend.specs.Searching.{IsReady, IsAboveNode, IsOpenAt, IsClosedAt}
 use Rattle.si_descend.proofs.Below.{IsChildOf}
 use Rattle.si_descend.proofs.RightLaws.{child_among, among_child}
@@ -29,32 +29,32 @@ use Rattle.si_descend.proofs.Visiting.{siblings, same_trail}
 abbrev pub keys_of : List Pending → List ℕ
 keys_of entries = map (λ p. p.node) entries
 
-keys_at : (mark taken_mark : ℕ) (whole : Bool) (tops : List ℕ) → keys_of (pending_at mark taken_mark whole tops) ≡ tops
-keys_at mark taken_mark whole [] = refl
-keys_at mark taken_mark whole (top ∷ tops) = ap (λ l. top ∷ l) (keys_at mark taken_mark whole tops)
+keys_at : (p : Pending) (tops : List ℕ) → keys_of (like p tops) ≡ tops
+keys_at p [] = refl
+keys_at p (top ∷ tops) = ap (λ l. top ∷ l) (keys_at p tops)
 
-pub length_at : (mark taken_mark : ℕ) (whole : Bool) (tops : List ℕ) → length (pending_at mark taken_mark whole tops) ≡ length tops
-length_at mark taken_mark whole [] = refl
-length_at mark taken_mark whole (top ∷ tops) = omega (arith, length_at mark taken_mark whole tops)
+pub length_at : (p : Pending) (tops : List ℕ) → length (like p tops) ≡ length tops
+length_at p [] = refl
+length_at p (top ∷ tops) = omega (arith, length_at p tops)
 
 pub keys_long : (entries : List Pending) → length (keys_of entries) ≡ length entries
 keys_long [] = refl
 keys_long (p ∷ entries) = omega (arith, keys_long entries)
 
-keys_then : (old new : List Pending) (mark taken_mark : ℕ) (whole : Bool) (tops : List ℕ) → new ≡ old ++ pending_at mark taken_mark whole tops → keys_of new ≡ keys_of old ++ tops
-keys_then old new mark taken_mark whole tops e =
-    ap keys_of e ∙ map-append (λ p. p.node) old (pending_at mark taken_mark whole tops) ∙ ap (λ l. keys_of old ++ l) (keys_at mark taken_mark whole tops)
+keys_then : (old new : List Pending) (p : Pending) (tops : List ℕ) → new ≡ old ++ like p tops → keys_of new ≡ keys_of old ++ tops
+keys_then old new p tops e =
+    ap keys_of e ∙ map-append (λ p. p.node) old (like p tops) ∙ ap (λ l. keys_of old ++ l) (keys_at p tops)
 
-pub all_at_once : (P : Pending → Type 0) (mark taken_mark : ℕ) (whole : Bool) (tops : List ℕ) → ((key : ℕ) → IsAmong tops key → P (record { node = key; mark = mark; taken_mark = taken_mark; whole = whole })) → AllByRecursion P (pending_at mark taken_mark whole tops)
-all_at_once P mark taken_mark whole [] holds = tt
-all_at_once P mark taken_mark whole (top ∷ tops) holds = (holds top (inl refl), all_at_once P mark taken_mark whole tops (λ key a. holds key (inr a)))
+pub all_at_once : (P : Pending → Type 0) (p : Pending) (tops : List ℕ) → ((key : ℕ) → IsAmong tops key → P (record { node = key; mark = p.mark; taken_mark = p.taken_mark; whole = p.whole })) → AllByRecursion P (like p tops)
+all_at_once P p [] holds = tt
+all_at_once P p (top ∷ tops) holds = (holds top (inl refl), all_at_once P p tops (λ key a. holds key (inr a)))
 
 -- one more is pending
-pub one_pending_more : (old items new : List Pending) (mark taken_mark : ℕ) (whole : Bool) (tops : List ℕ) (key : ℕ) → items ≡ old ++ pending_at mark taken_mark whole tops → new ≡ items ++ record { node = key; mark = mark; taken_mark = taken_mark; whole = whole } ∷ [] → new ≡ old ++ pending_at mark taken_mark whole (tops ++ key ∷ [])
-one_pending_more old items new mark taken_mark whole tops key e f =
-    let entry : Pending = record { node = key; mark = mark; taken_mark = taken_mark; whole = whole } in
-    f ∙ ap (λ l. l ++ entry ∷ []) e ∙ append_assoc old (pending_at mark taken_mark whole tops) (entry ∷ [])
-    ∙ ap (λ l. old ++ l) (sym (map-append (λ k. record { node = k; mark = mark; taken_mark = taken_mark; whole = whole }) tops (key ∷ [])))
+pub one_pending_more : (old items new : List Pending) (p : Pending) (tops : List ℕ) (key : ℕ) → items ≡ old ++ like p tops → new ≡ items ++ record { node = key; mark = p.mark; taken_mark = p.taken_mark; whole = p.whole } ∷ [] → new ≡ old ++ like p (tops ++ key ∷ [])
+one_pending_more old items new p tops key e f =
+    let entry : Pending = record { node = key; mark = p.mark; taken_mark = p.taken_mark; whole = p.whole } in
+    f ∙ ap (λ l. l ++ entry ∷ []) e ∙ append_assoc old (like p tops) (entry ∷ [])
+    ∙ ap (λ l. old ++ l) (sym (map-append (λ k. record { node = k; mark = p.mark; taken_mark = p.taken_mark; whole = p.whole }) tops (key ∷ [])))
 
 -- ---- marks
 abbrev pub IsRisingFrom : ℕ → ℕ → List Pending → Type 0
@@ -81,13 +81,13 @@ rising_last m k (q ∷ qs) p h =
       before = ((rest.mark, rest.taken_mark), rest.before);
     }
 
-rising_flat : (m k n l : ℕ) (whole : Bool) (tops : List ℕ) → m ≤ n → k ≤ l → IsRisingFrom m k (pending_at n l whole tops)
-rising_flat m k n l whole [] e f = tt
-rising_flat m k n l whole (top ∷ tops) e f = (e, f, rising_flat n l n l whole tops (omega arith) (omega arith))
+rising_flat : (m k : ℕ) (p : Pending) (tops : List ℕ) → m ≤ p.mark → k ≤ p.taken_mark → IsRisingFrom m k (like p tops)
+rising_flat m k p [] e f = tt
+rising_flat m k p (top ∷ tops) e f = (e, f, rising_flat p.mark p.taken_mark p tops (omega arith) (omega arith))
 
-rising_more : (m k n l : ℕ) (ps : List Pending) (whole : Bool) (tops : List ℕ) → IsRisingFrom m k ps → AllByRecursion (IsBefore n l) ps → m ≤ n → k ≤ l → IsRisingFrom m k (ps ++ pending_at n l whole tops)
-rising_more m k n l [] whole tops h before e f = rising_flat m k n l whole tops e f
-rising_more m k n l (p ∷ ps) whole tops h before e f = (h.0, h.1, rising_more p.mark p.taken_mark n l ps whole tops h.2 before.1 before.0.0 before.0.1)
+rising_more : (m k : ℕ) (p : Pending) (ps : List Pending) (tops : List ℕ) → IsRisingFrom m k ps → AllByRecursion (IsBefore p.mark p.taken_mark) ps → m ≤ p.mark → k ≤ p.taken_mark → IsRisingFrom m k (ps ++ like p tops)
+rising_more m k p [] tops h before e f = rising_flat m k p tops e f
+rising_more m k p (q ∷ qs) tops h before e f = (h.0, h.1, rising_more q.mark q.taken_mark p qs tops h.2 before.1 before.0.0 before.0.1)
 
 -- ---- trails
 module _ {X : Type 0} where
@@ -99,6 +99,9 @@ module _ {X : Type 0} where
   pub front_stays : (m n : ℕ) (old new : List X) → m ≤ n → n ≤ length old → Grows (take n old) new → take m new ≡ take m old
   front_stays m n old new less within grows =
       ap (take m) grows.1 ∙ take-append-le m (take n old) grows.0 (omega (arith, less, length-take-le n old within)) ∙ take_less m n old less within
+
+  pub grows_cut : (n : ℕ) (xs : List X) → Grows (take n xs) xs
+  grows_cut n xs = (drop n xs, sym (take-append-drop n xs))
 
   pub no_shorter : (n : ℕ) (old new : List X) → n ≤ length old → Grows (take n old) new → n ≤ length new
   no_shorter n old new within grows = omega (arith, ap length grows.1, length-append (take n old) grows.0, length-take-le n old within)
@@ -131,24 +134,21 @@ pub record AreWaiting (search : Search) (base : Pairs) (first : List (ℕ × ⊤
   pub taken_grows : Grows first taken.pairs
 
 module _ (search : Search) where
-  pub due_at_once : (key : ℕ) (trail : Trail (Bor (List Cell))) (taken : Trail ⊤) (whole : Bool) → MayVisit search key trail taken whole → IsDue search trail taken (record { node = key; mark = length trail.pairs; taken_mark = length taken.pairs; whole = whole })
-  due_at_once key trail taken whole may = record {
+  pub due_at_once : (key : ℕ) (trail : Trail (Bor (List Cell))) (taken : Trail ⊤) → IsAboveNode search key trail taken → IsDue search trail taken (pending_at key trail taken)
+  due_at_once key trail taken above = record {
     mark = omega arith;
     taken_mark = omega arith;
-    may = subst (λ t. MayVisit search key t (cut (length taken.pairs) taken) whole) (sym (cut_all (length trail.pairs) trail refl)) (subst (λ t. MayVisit search key trail t whole) (sym (cut_all (length taken.pairs) taken refl)) may);
+    may = subst (λ t. IsAboveNode search key t (cut (length taken.pairs) taken)) (sym (cut_all (length trail.pairs) trail refl)) (subst (λ t. IsAboveNode search key trail t) (sym (cut_all (length taken.pairs) taken refl)) above);
   }
 
-  pub waiting_starts : (key mark taken_mark : ℕ) (trail : Trail (Bor (List Cell))) (taken : Trail ⊤) (entries : List Pending) → mark ≡ length trail.pairs → taken_mark ≡ length taken.pairs → entries ≡ record { node = key; mark = mark; taken_mark = taken_mark; whole = false } ∷ [] → IsAboveNode search key trail taken → AreWaiting search trail.pairs taken.pairs trail taken entries
-  waiting_starts key mark taken_mark trail taken entries e f g above =
-      let one : AreWaiting search trail.pairs taken.pairs trail taken (record { node = key; mark = length trail.pairs; taken_mark = length taken.pairs; whole = false } ∷ []) = record {
-        due = (due_at_once key trail taken false above, tt);
+  pub waiting_starts : (key : ℕ) (trail : Trail (Bor (List Cell))) (taken : Trail ⊤) (entries : List Pending) → entries ≡ pending_at key trail taken ∷ [] → IsAboveNode search key trail taken → AreWaiting search trail.pairs taken.pairs trail taken entries
+  waiting_starts key trail taken entries e above =
+      subst (AreWaiting search trail.pairs taken.pairs trail taken) (sym e) (record {
+        due = (due_at_once key trail taken above, tt);
         rising = (omega arith, omega arith, tt);
         grows = ([], sym (append-nil trail.pairs));
         taken_grows = ([], sym (append-nil taken.pairs));
-      } in
-      subst (AreWaiting search trail.pairs taken.pairs trail taken) (sym g)
-      (subst (λ m. AreWaiting search trail.pairs taken.pairs trail taken (record { node = key; mark = m; taken_mark = taken_mark; whole = false } ∷ [])) (sym e)
-      (subst (λ k. AreWaiting search trail.pairs taken.pairs trail taken (record { node = key; mark = length trail.pairs; taken_mark = k; whole = false } ∷ [])) (sym f) one))
+      })
 
   module _ (base : Pairs) (first : List (ℕ × ⊤)) (old new : Trail (Bor (List Cell))) (before after : Trail ⊤) (front : List Pending) (next : Pending) where
     pub waiting_next : AreWaiting search base first old before (front ++ next ∷ []) → IsDue search old before next
@@ -160,18 +160,16 @@ module _ (search : Search) where
         let last = rising_last (length base) (length first) front next h.rising in
         grows_still base old.pairs new.pairs next.mark h.grows last.mark (waiting_next h).mark more
 
-    pub waiting_on : (mine : List Pending) (whole : Bool) (tops : List ℕ) → AreWaiting search base first old before (front ++ next ∷ []) → new.slots ≡ old.slots → after.slots ≡ before.slots → Grows (take next.mark old.pairs) new.pairs → Grows (take next.taken_mark before.pairs) after.pairs → mine ≡ front ++ pending_at (length new.pairs) (length after.pairs) whole tops → AllByRecursion (IsDue search new after) (pending_at (length new.pairs) (length after.pairs) whole tops) → AreWaiting search base first new after mine
-    waiting_on mine whole tops h e f more taken_more pushed due =
+    pub waiting_on : (mine : List Pending) (p : Pending) (tops : List ℕ) → AreWaiting search base first old before (front ++ next ∷ []) → new.slots ≡ old.slots → after.slots ≡ before.slots → Grows (take next.mark old.pairs) new.pairs → Grows (take next.taken_mark before.pairs) after.pairs → next.mark ≤ p.mark → next.taken_mark ≤ p.taken_mark → mine ≡ front ++ like p tops → AllByRecursion (IsDue search new after) (like p tops) → AreWaiting search base first new after mine
+    waiting_on mine p tops h e f more taken_more less taken_less pushed due =
         let last = rising_last (length base) (length first) front next h.rising in
         let is = waiting_next h in
-        let long = no_shorter next.mark old.pairs new.pairs is.mark more in
-        let taken_long = no_shorter next.taken_mark before.pairs after.pairs is.taken_mark taken_more in
         subst (AreWaiting search base first new after) (sym pushed) (record {
-          due = all_append (IsDue search new after) front (pending_at (length new.pairs) (length after.pairs) whole tops)
-              (all_with (IsDue search old before) (IsBefore next.mark next.taken_mark) (IsDue search new after) front (λ p d b. stays p d b is) (all_front (IsDue search old before) front (next ∷ []) h.due) last.before) due;
-          rising = rising_more (length base) (length first) (length new.pairs) (length after.pairs) front whole tops last.others
-              (all_weaker (IsBefore next.mark next.taken_mark) (IsBefore (length new.pairs) (length after.pairs)) front (λ p b. (omega (arith, b.0, long), omega (arith, b.1, taken_long))) last.before)
-              (omega (arith, last.mark, long)) (omega (arith, last.taken_mark, taken_long));
+          due = all_append (IsDue search new after) front (like p tops)
+              (all_with (IsDue search old before) (IsBefore next.mark next.taken_mark) (IsDue search new after) front (λ q d b. stays q d b is) (all_front (IsDue search old before) front (next ∷ []) h.due) last.before) due;
+          rising = rising_more (length base) (length first) p front tops last.others
+              (all_weaker (IsBefore next.mark next.taken_mark) (IsBefore p.mark p.taken_mark) front (λ q b. (omega (arith, b.0, less), omega (arith, b.1, taken_less))) last.before)
+              (omega (arith, last.mark, less)) (omega (arith, last.taken_mark, taken_less));
           grows = grows_still base old.pairs new.pairs next.mark h.grows last.mark is.mark more;
           taken_grows = grows_still first before.pairs after.pairs next.taken_mark h.taken_grows last.taken_mark is.taken_mark taken_more;
         })
@@ -195,9 +193,9 @@ module _ (search : Search) (ready : IsReady search) (top : ℕ) (front : List Pe
       (passing_over search.tree.now (legal_nodes search.tree.now ready.legal) (IsOpenAt search) top (keys_of front) next.node passed turned (none_in search ready top next.node is closed))
 
   module _ (node : Node Term) (has : HasNode search.tree.now next.node node) where
-    pub passed_on : (tops : List ℕ) → AreToVisit search next.node tops → (mine : List Pending) (mark taken_mark : ℕ) (whole : Bool) → mine ≡ front ++ pending_at mark taken_mark whole tops → IsOpenAt search next.node → HasPassed search.tree.now (IsOpenAt search) top (keys_of mine) (next.node ∷ passed)
-    passed_on tops visit mine mark taken_mark whole pushed is =
-        subst (λ l. HasPassed search.tree.now (IsOpenAt search) top l (next.node ∷ passed)) (sym (keys_then front mine mark taken_mark whole tops pushed))
+    pub passed_on : (tops : List ℕ) → AreToVisit search next.node tops → (mine : List Pending) (p : Pending) → mine ≡ front ++ like p tops → IsOpenAt search next.node → HasPassed search.tree.now (IsOpenAt search) top (keys_of mine) (next.node ∷ passed)
+    passed_on tops visit mine p pushed is =
+        subst (λ l. HasPassed search.tree.now (IsOpenAt search) top l (next.node ∷ passed)) (sym (keys_then front mine p tops pushed))
         (passing_on search.tree.now (legal_nodes search.tree.now ready.legal) (IsOpenAt search) top (keys_of front) next.node passed tops turned is visit.distinct
         (λ child a. among_child search.tree.now (legal_nodes search.tree.now ready.legal) next.node node has child (visit.within node has child a)) left)
       where

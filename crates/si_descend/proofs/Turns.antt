@@ -17,7 +17,7 @@ use Rattle.si_tree.specs.Reading.{IsNode, children_of, postings_of}
 use Rattle.si_descend.specs.declared.pending.Pending.{Pending}
 use Rattle.si_descend.specs.declared.search.Search.{Search}
 use Rattle.si_descend.specs.Lending.{HasRoomForAnswers}
-use Rattle.si_descend.specs.Pending.{cut, IsDue, Leaves, MayVisit, HasStepped}
+use Rattle.si_descend.specs.Pending.{cut, IsDue, Leaves, MayVisit, HasStepped, pending_at}
 use Rattle.si_descend.specs.Searching.{IsReady, IsClosedAt, IsOpenAt, HasFound}
 use Rattle.si_descend.proofs.Passing.{HasPassed, passing_starts, passing_over, passed_few, next_new, apart_few}
 use Rattle.si_descend.proofs.Gathering.{HasGathered, none_in, gathered_none, gathered_more, found_in_end, gathered_fits}
@@ -40,8 +40,8 @@ due_node search trail taken p is = by p.whole is.may where
   by false may = may.node
 
 module _ (search : Search) (ready : IsReady search) (top : ℕ) (old : List Posting) where
-  pub finding_starts : (mark taken_mark : ℕ) (entries : List Pending) → IsNode search.tree.now top → entries ≡ record { node = top; mark = mark; taken_mark = taken_mark; whole = false } ∷ [] → IsFinding search top entries old old 0
-  finding_starts mark taken_mark entries is e = record {
+  pub finding_starts : (trail : Trail (Bor (List Cell))) (taken : Trail ⊤) (entries : List Pending) → IsNode search.tree.now top → entries ≡ pending_at top trail taken ∷ [] → IsFinding search top entries old old 0
+  finding_starts trail taken entries is e = record {
     passed = [];
     found = [];
     nodes = subst (λ l. HasPassed search.tree.now (IsOpenAt search) top (keys_of l) []) (sym e) (passing_starts search.tree.now (legal_nodes search.tree.now ready.legal) (IsOpenAt search) top is);
@@ -52,7 +52,7 @@ module _ (search : Search) (ready : IsReady search) (top : ℕ) (old : List Post
 
   -- ---- a turn
   module _ (front : List Pending) (next : Pending) (entries : List Pending) (are : entries ≡ front ++ next ∷ []) (now : List Posting) (n : ℕ) (h : IsFinding search top entries old now n) where
-    pub finding_over : (trail : Trail (Bor (List Cell))) (taken : Trail ⊤) (mine : List Pending) → IsNode search.tree.now next.node → HasStepped search next.node trail taken front mine false → IsFinding search top mine old now n
+    pub finding_over : (trail : Trail (Bor (List Cell))) (taken : Trail ⊤) (mine : List Pending) → IsNode search.tree.now next.node → HasStepped search next trail taken front mine false → IsFinding search top mine old now n
     finding_over trail taken mine is stepped = record {
       passed = h.passed;
       found = h.found;
@@ -63,11 +63,11 @@ module _ (search : Search) (ready : IsReady search) (top : ℕ) (old : List Post
     }
 
     module _ (node : Node Term) (has : HasNode search.tree.now next.node node) where
-      pub finding_on : (trail : Trail (Bor (List Cell))) (taken : Trail ⊤) (mine : List Pending) (own later : List Posting) → HasStepped search next.node trail taken front mine true → own ≡ postings_of node.content → later ≡ now ++ own → IsFinding search top mine old later (n + 1)
+      pub finding_on : (trail : Trail (Bor (List Cell))) (taken : Trail ⊤) (mine : List Pending) (own later : List Posting) → HasStepped search next trail taken front mine true → own ≡ postings_of node.content → later ≡ now ++ own → IsFinding search top mine old later (n + 1)
       finding_on trail taken mine own later stepped e f = record {
         passed = next.node ∷ h.passed;
         found = h.found ++ postings_of node.content;
-        nodes = passed_on search ready top front next entries h.passed are h.nodes node has stepped.1.tops stepped.1.visit mine (length trail.pairs) (length taken.pairs) stepped.1.whole stepped.1.pushed stepped.0;
+        nodes = passed_on search ready top front next entries h.passed are h.nodes node has stepped.1.tops stepped.1.visit mine stepped.1.marks stepped.1.pushed stepped.0;
         gathered = gathered_more search.tree.now ready.legal h.passed h.found next.node node h.gathered
             (next_new search.tree.now (legal_nodes search.tree.now ready.legal) (IsOpenAt search) top (keys_of front) next.node h.passed (turned search ready top front next entries h.passed are h.nodes)) has;
         count = omega (arith, h.count);
@@ -130,11 +130,11 @@ module _ (search : Search) (base : Pairs) (first : List (ℕ × ⊤)) (old new :
   module _ (e : new.slots ≡ old.slots) (f : after.slots ≡ before.slots) (more : Grows (take next.mark old.pairs) new.pairs) (taken_more : Grows (take next.taken_mark before.pairs) after.pairs) where
     pub waiting_over : mine ≡ front → AreWaiting search base first new after mine
     waiting_over same =
-        waiting_on search base first old new before after front next mine false [] (subst (AreWaiting search base first old before) are h) e f more taken_more (same ∙ sym (append-nil front)) tt
+        waiting_on search base first old new before after front next mine next [] (subst (AreWaiting search base first old before) are h) e f more taken_more (omega arith) (omega arith) (same ∙ sym (append-nil front)) tt
 
-    pub waiting_more : Leaves search next.node new after front mine → AreWaiting search base first new after mine
+    pub waiting_more : Leaves search next new after front mine → AreWaiting search base first new after mine
     waiting_more leaves =
-        waiting_on search base first old new before after front next mine leaves.whole leaves.tops (subst (AreWaiting search base first old before) are h) e f more taken_more leaves.pushed leaves.due
+        waiting_on search base first old new before after front next mine leaves.marks leaves.tops (subst (AreWaiting search base first old before) are h) e f more taken_more leaves.mark leaves.taken_mark leaves.pushed leaves.due
 
     pub waiting_grows : Grows base new.pairs
     waiting_grows = grown search base first old new before after front next (subst (AreWaiting search base first old before) are h) more

@@ -1,9 +1,8 @@
 -- Where all nodes below are open.
-use Rattle.std.proofs.Common.{◌≡◌, ◌≤◌, ℕ, false, true, List, [], ◌∷◌, ◌++◌, Option, None, Some, length, take, slice_get, append-nil, inl, inr, refl, ap, sym, ◌∙◌, subst}
+use Rattle.std.proofs.Common.{◌≡◌, ◌≤◌, ℕ, false, true, List, [], ◌∷◌, ◌++◌, Option, None, Some, length, slice_get, append-nil, inl, inr, refl, ap, sym, ◌∙◌, subst, arith}
 use Rattle.std.specs.Option.{is_some}
 use Rattle.std.specs.Bool.{⊤}
 use Rattle.std.specs.Borrow.{Bor}
-use Rattle.std.proofs.lemmas.List.{take_all}
 use Rattle.si_defs.specs.Substitutions.{IsAmong}
 use Rattle.si_defs.proofs.ListLaws.{get_among}
 use Rattle.si_trail.specs.Trails.{Trail}
@@ -16,10 +15,10 @@ use Rattle.si_legal.proofs.PathLaws.{one_node}
 use Rattle.si_tree.specs.Reading.{children_of, split_of}
 use Rattle.si_descend.specs.declared.pending.Pending.{Pending}
 use Rattle.si_descend.specs.declared.search.Search.{Search}
-use Rattle.si_descend.specs.Pending.{IsDue, Leaves, pending_at}
+use Rattle.si_descend.specs.Pending.{cut, IsDue, Leaves, MayVisit, like, pending_at}
 use Rattle.si_descend.specs.Searching.{IsReady, IsOpenAt, AreOpenBelow}
 use Rattle.si_descend.proofs.Below.{IsChildOf, passes_child, child_passes, passes_first}
-use Rattle.si_descend.proofs.PendingLaws.{all_at_once, due_at_once}
+use Rattle.si_descend.proofs.PendingLaws.{all_at_once}
 use Rattle.si_descend.proofs.Visiting.{siblings}
 
 -- ---- downwards
@@ -54,32 +53,51 @@ leaf_below search ready key node has o is none here q low path stands reached pa
 pub child_at : (search : Search) (ready : IsReady search) (key : ℕ) (node : Node Term) (has : HasNode search.tree.now key node) (children : List ℕ) → children ≡ children_of node.content → (place child : ℕ) → slice_get children place ≡ Some child → IsChildOf search.tree.now key child
 child_at search ready key node has children are place child e = (siblings search ready key node has).are child (subst (λ l. IsAmong l child) are (get_among children place child e))
 
-module _ (search : Search) (ready : IsReady search) (key : ℕ) (node : Node Term) (has : HasNode search.tree.now key node) (trail : Trail (Bor (List Cell))) (taken : Trail ⊤) (old new : List Pending) where
+module _ (search : Search) (ready : IsReady search) (next : Pending) (node : Node Term) (has : HasNode search.tree.now next.node node) (trail : Trail (Bor (List Cell))) (taken : Trail ⊤) (old new : List Pending) where
   -- all children are left
-  pub leaves_all : AreOpenBelow search key → (mark taken_mark place : ℕ) (children : List ℕ) → children ≡ children_of node.content → mark ≡ length trail.pairs → taken_mark ≡ length taken.pairs → length children ≤ place → new ≡ old ++ pending_at mark taken_mark true (take place children) → Leaves search key trail taken old new
-  leaves_all all mark taken_mark place children are e f through pushed = record {
+  pub leaves_all : AreOpenBelow search next.node → (marks : Pending) → next.mark ≤ marks.mark → next.taken_mark ≤ marks.taken_mark → marks.mark ≤ length trail.pairs → marks.taken_mark ≤ length taken.pairs → marks.whole ≡ true → new ≡ old ++ like marks (children_of node.content) → Leaves search next trail taken old new
+  leaves_all all marks above taken_above within taken_within whole pushed = record {
     tops = children_of node.content;
-    whole = true;
+    marks = marks;
     visit = record {
-      distinct = (siblings search ready key node has).distinct;
-      within = λ n has' child a. subst (λ m. IsAmong (children_of m.content) child) (one_node search.tree.now key node n has has') a;
-      others = λ n has' child a. inl (subst (λ m. IsAmong (children_of m.content) child) (one_node search.tree.now key n node has' has) a);
+      distinct = (siblings search ready next.node node has).distinct;
+      within = λ n has' child a. subst (λ m. IsAmong (children_of m.content) child) (one_node search.tree.now next.node node n has has') a;
+      others = λ n has' child a. inl (subst (λ m. IsAmong (children_of m.content) child) (one_node search.tree.now next.node n node has' has) a);
     };
-    pushed = pushed ∙ ap (λ l. old ++ pending_at mark taken_mark true l) (take_all place children through ∙ are) ∙ ap (λ m. old ++ pending_at m taken_mark true (children_of node.content)) e ∙ ap (λ k. old ++ pending_at (length trail.pairs) k true (children_of node.content)) f;
-    due = all_at_once (IsDue search trail taken) (length trail.pairs) (length taken.pairs) true (children_of node.content)
-        (λ child a. (let is = (siblings search ready key node has).are child a in due_at_once search child trail taken true ((is.0, is.1), open_child search key child is all)));
+    pushed = pushed;
+    due = all_at_once (IsDue search trail taken) marks (children_of node.content) (λ child a. (let is = (siblings search ready next.node node has).are child a in record {
+      mark = within;
+      taken_mark = taken_within;
+      may = subst (MayVisit search child (cut marks.mark trail) (cut marks.taken_mark taken)) (sym whole) ((is.0, is.1), open_child search next.node child is all);
+    }));
+    mark = above;
+    taken_mark = taken_above;
   }
 
   -- a leaf leaves none
-  pub leaves_none : split_of node.content ≡ None → new ≡ old → Leaves search key trail taken old new
+  pub leaves_none : split_of node.content ≡ None → new ≡ old → Leaves search next trail taken old new
   leaves_none bare same = record {
     tops = [];
-    whole = true;
+    marks = next;
     visit = record {
       distinct = tt;
       within = λ n has' child a. absurd a;
-      others = λ n has' child a. absurd (subst (λ l. IsAmong l child) (leaf_bare node.content bare) (subst (λ m. IsAmong (children_of m.content) child) (one_node search.tree.now key n node has' has) a));
+      others = λ n has' child a. absurd (subst (λ l. IsAmong l child) (leaf_bare node.content bare) (subst (λ m. IsAmong (children_of m.content) child) (one_node search.tree.now next.node n node has' has) a));
     };
     pushed = same ∙ sym (append-nil old);
     due = tt;
+    mark = omega arith;
+    taken_mark = omega arith;
   }
+
+-- after the bindings of a node, those above it are there still
+pub leaves_later : (search : Search) (next : Pending) (trail : Trail (Bor (List Cell))) (taken : Trail ⊤) (old new : List Pending) → next.mark ≤ length trail.pairs → next.taken_mark ≤ length taken.pairs → Leaves search (pending_at next.node trail taken) trail taken old new → Leaves search next trail taken old new
+leaves_later search next trail taken old new less taken_less leaves = record {
+  tops = leaves.tops;
+  marks = leaves.marks;
+  visit = leaves.visit;
+  pushed = leaves.pushed;
+  due = leaves.due;
+  mark = omega (arith, less, leaves.mark);
+  taken_mark = omega (arith, taken_less, leaves.taken_mark);
+}

@@ -33,6 +33,11 @@ pub record IsDue (search : Search) (trail : Trail (Bor (List Cell))) (taken : Tr
   pub taken_mark : p.taken_mark ≤ length taken.pairs
   pub may : MayVisit search p.node (cut p.mark trail) (cut p.taken_mark taken) p.whole
 
+-- one that is to be visited below those nodes whose bindings the trails hold
+abbrev pub pending_at : ℕ → Trail (Bor (List Cell)) → Trail ⊤ → Pending
+pending_at key trail taken =
+    record { node = key; mark = length trail.pairs; taken_mark = length taken.pairs; whole = false }
+
 -- ---- the children of an open node
 -- these are children of the node, and each other child is closed
 pub record AreToVisit (search : Search) (key : ℕ) (tops : List ℕ) : Type 0 where
@@ -42,27 +47,30 @@ pub record AreToVisit (search : Search) (key : ℕ) (tops : List ℕ) : Type 0 w
   pub others : AtNode search.tree.now key (λ n. (child : ℕ) → IsAmong (children_of n.content) child
       → IsAmong tops child ⊎ IsClosedAt search child)
 
-abbrev pub pending_at : ℕ → ℕ → Bool → List ℕ → List Pending
-pending_at mark taken_mark whole tops =
-    map (λ key. record { node = key; mark = mark; taken_mark = taken_mark; whole = whole }) tops
+-- these nodes, with the marks of this one
+abbrev pub like : Pending → List ℕ → List Pending
+like p tops = map (λ key.
+    record { node = key; mark = p.mark; taken_mark = p.taken_mark; whole = p.whole }) tops
 
--- those are put after the nodes that were pending
-pub record Leaves (search : Search) (key : ℕ) (trail : Trail (Bor (List Cell))) (taken : Trail ⊤)
-    (old new : List Pending) : Type 0 where
+-- those are put after the nodes that were pending, with marks that are no less than those of the
+-- node
+pub record Leaves (search : Search) (next : Pending) (trail : Trail (Bor (List Cell)))
+    (taken : Trail ⊤) (old new : List Pending) : Type 0 where
   pub tops : List ℕ
-  pub whole : Bool
-  pub visit : AreToVisit search key tops
-  pub pushed : new ≡ old ++ pending_at (length trail.pairs) (length taken.pairs) whole tops
-  pub due : AllByRecursion (IsDue search trail taken)
-      (pending_at (length trail.pairs) (length taken.pairs) whole tops)
+  pub marks : Pending
+  pub visit : AreToVisit search next.node tops
+  pub pushed : new ≡ old ++ like marks tops
+  pub due : AllByRecursion (IsDue search trail taken) (like marks tops)
+  pub mark : next.mark ≤ marks.mark
+  pub taken_mark : next.taken_mark ≤ marks.taken_mark
 
 -- ---- one step
 -- the answer says whether the node is open; where it is, its children are pending
-abbrev pub HasStepped : Search → ℕ → Trail (Bor (List Cell)) → Trail ⊤ → List Pending
+abbrev pub HasStepped : Search → Pending → Trail (Bor (List Cell)) → Trail ⊤ → List Pending
     → List Pending → Bool → Type 0
-HasStepped search key trail taken old new true =
-    IsOpenAt search key × Leaves search key trail taken old new
-HasStepped search key trail taken old new false = IsClosedAt search key × (new ≡ old)
+HasStepped search next trail taken old new true =
+    IsOpenAt search next.node × Leaves search next trail taken old new
+HasStepped search next trail taken old new false = IsClosedAt search next.node × (new ≡ old)
 
 -- ---- what is lacking where memory runs out
 -- room for what is found below the node, for all nodes to be pending, or to solve

@@ -3,7 +3,7 @@
 ghost use Rattle.std.specs.Prelude.{◌≡◌, ◌≤◌, ◌<◌, ◌^◌, IfSome, IfNone, Some, ℕ, length};
 ghost use Rattle.si_tree.specs.Reading.{IsNode};
 ghost use Rattle.si_descend.specs.declared.attempts.Attempts.TheVariants.{InOrder, ByHeads};
-ghost use Rattle.si_descend.specs.Attempts.{head_at, wanted_of, AreHeadsFor, AreAttempts, IsTried};
+ghost use Rattle.si_descend.specs.Attempts.{head_at, wanted_of, place_count, AreHeadsFor, AreAttempts, IsTried};
 ghost use Rattle.si_descend.specs.Heads.{RulesOut, SplitsBy};
 ghost use Rattle.si_descend.specs.Searching.{IsReady};
 
@@ -26,11 +26,24 @@ pub(crate) enum Attempts<'a> {
     ByHeads(Lookup),
 }
 
+impl Attempts<'_> {
+    /// The number of places.
+    #[inline(always)]
+    pub(crate) fn end(self) -> usize
+        ensures { result ≡ place_count self.entry }
+    {
+        match self {
+            Attempts::InOrder(siblings) => siblings.children.len(),
+            Attempts::ByHeads(heads) => heads.end,
+        }
+    }
+}
+
 /// All children of a node, their heads in the same order, and what is wanted of them.
 #[derive(Clone, Copy)]
 pub(crate) struct Siblings<'a> {
-    pub(crate) children: &'a [NodeId],
-    pub(crate) heads: &'a [Head],
+    children: &'a [NodeId],
+    heads: &'a [Head],
     wanted: Option<Wanted>,
 }
 
@@ -39,8 +52,8 @@ pub(crate) struct Siblings<'a> {
 #[derive(Clone, Copy)]
 pub(crate) struct Lookup {
     wanted: Wanted,
-    /// The number of these heads.
-    pub(crate) end: usize,
+    // The number of these heads.
+    end: usize,
 }
 
 /// What is tried below a node. Where it has many children, and more than there are heads that can
@@ -100,9 +113,32 @@ fn heads_for(relation: Relation, slots: &Slots, vars: usize, first: Cell) -> Opt
     }
 }
 
-/// The child at a place, if it can be open, where the children are tried in order.
+/// The child at a place, if there is one there that can be open.
 #[inline(always)]
-pub(crate) fn child_in_order(
+pub(crate) fn child_at(
+    search: &Search<'_>,
+    node: NodeId,
+    attempts: Attempts<'_>,
+    place: usize,
+) -> Option<NodeId>
+    requires node { IsNode search.now.tree.now node }
+    requires ready { IsReady search.now }
+    requires attempts { AreAttempts search.now node attempts }
+    requires within { place < place_count attempts }
+    ensures some { IfSome result (IsTried search.now node attempts.entry place) }
+    ensures none { IfNone result ((child : ℕ)
+        → IsTried search.now node attempts.entry place child
+        → RulesOut search.now (wanted_of attempts.entry) child) }
+{
+    match attempts {
+        Attempts::InOrder(siblings) => child_in_order(search, node, siblings, place),
+        Attempts::ByHeads(heads) => child_by_head(search, node, heads, place),
+    }
+}
+
+// The same where the children are tried in order.
+#[inline(always)]
+fn child_in_order(
     search: &Search<'_>,
     node: NodeId,
     siblings: Siblings<'_>,
@@ -122,15 +158,9 @@ pub(crate) fn child_in_order(
     Some(siblings.children[place])
 }
 
-/// The child that has the head at a place, if there is one, where the children are looked up by
-/// their heads.
+// The same where they are looked up by their heads: the one that has the head at this place.
 #[inline(always)]
-pub(crate) fn child_by_head(
-    search: &Search<'_>,
-    node: NodeId,
-    heads: Lookup,
-    place: usize,
-) -> Option<NodeId>
+fn child_by_head(search: &Search<'_>, node: NodeId, heads: Lookup, place: usize) -> Option<NodeId>
     requires node { IsNode search.now.tree.now node }
     requires ready { IsReady search.now }
     requires attempts { AreAttempts search.now node (ByHeads heads) }
@@ -140,6 +170,7 @@ pub(crate) fn child_by_head(
         → IsTried search.now node (ByHeads heads) place child
         → RulesOut search.now (Some heads.wanted) child) }
 {
+    // A variable of the query has no head of its own, which would be the first.
     let Some(head) = head_at(heads.wanted.first, place) else {
         return None;
     };

@@ -44,14 +44,7 @@ pub(crate) fn count_all<'a>(
     requires empty { pending.old.items ≡ [] }
     ensures { IfOk result (HasCounted search.now node) }
 {
-    let mark = trail.mark();
-    let taken_mark = taken.mark();
-    pending.push(Pending {
-        node,
-        mark,
-        taken_mark,
-        whole: false,
-    })?;
+    pending.push(Pending::at(node, trail, taken))?;
     let mut passed: u64 = 0;
     let mut answers: u64 = 0;
     while let Some(next) = pending.pop() {

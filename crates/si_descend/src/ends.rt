@@ -95,6 +95,7 @@ pub(crate) fn find_ends_below<'a>(
         if search.tree.split(at).is_none() {
             return true;
         }
+        // The root of an empty tree has a split and no child.
         let Some(child) = search.tree.children(at).first() else {
             return false;
         };

@@ -82,39 +82,21 @@ pub(crate) fn keeps_variables(relation: Relation, slots: &Slots) -> bool
 fn clash(relation: Relation, slots: &Slots, first: Cell, head: Head) -> bool
     ensures { IsTrue result → CannotHave relation slots.now first head }
 {
-    let Cell::App { sym, arity, .. } = first else {
-        return clash_variable(slots, first, head);
-    };
-    match head {
-        Head::Sym { sym: s, arity: a } => !are_same(sym, s, arity, a),
-        Head::Var(_) => keeps_variables(relation, slots),
+    if let Cell::App { sym, arity, .. } = first {
+        return match head {
+            Head::Sym { sym: s, arity: a } => sym != s || arity != a,
+            Head::Var(_) => keeps_variables(relation, slots),
+        };
     }
-}
-
-// The same of a cell that is a variable.
-#[inline(always)]
-fn clash_variable(slots: &Slots, first: Cell, head: Head) -> bool
-    ensures { IsTrue result → (relation : Relation) → CannotHave relation slots.now first head }
-{
     match head {
         Head::Sym { .. } => match first {
             Cell::Query(_) => slots.freeze_query,
             Cell::Entry(_) => slots.freeze_entry,
-            Cell::App { .. } => false,
-            Cell::Ind(_) => false,
+            _ => false,
         },
         Head::Var(n) => match first {
-            Cell::Entry(m) => !are_same(m, n, 0, 0) && slots.freeze_entry,
-            Cell::App { .. } => false,
-            Cell::Query(_) => false,
-            Cell::Ind(_) => false,
+            Cell::Entry(m) => m != n && slots.freeze_entry,
+            _ => false,
         },
     }
-}
-
-// Whether both pairs of numbers are equal.
-fn are_same(m: u32, n: u32, k: u32, l: u32) -> bool
-    ensures { IsTrue result ↔ ((m ≡ n) × (k ≡ l)) }
-{
-    m == n && k == l
 }

@@ -1,17 +1,16 @@
 // The nodes that a search is still to visit, and one step of it.
-ghost use Rattle.std.specs.Prelude.{◌≡◌, ◌+◌, ◌≤◌, ◌<◌, Some, IfOk, OnErr, OnOk, length, take, vec_capacity, vec_len, ℕ};
+ghost use Rattle.std.specs.Prelude.{◌≡◌, ◌+◌, ◌++◌, ◌≤◌, ◌<◌, IfOk, OnErr, OnOk, length, take, vec_capacity, vec_len, ℕ};
 ghost use Rattle.si_defs.specs.Substitutions.{Grows};
 ghost use Rattle.si_tree.specs.Reading.{AtNode, IsNode, children_of};
 ghost use Rattle.si_unify.specs.Rooms.{AreNoLongerThan, IsNoLessRoom};
-ghost use Rattle.si_descend.specs.declared.attempts.Attempts.TheVariants.{InOrder, ByHeads};
-ghost use Rattle.si_descend.specs.Attempts.{AreAttempts};
+ghost use Rattle.si_descend.specs.Attempts.{wanted_of, AreAttempts};
 ghost use Rattle.si_descend.specs.Heads.{IsWanted};
 ghost use Rattle.si_descend.specs.Lending.{IsEnoughForTree};
-ghost use Rattle.si_descend.specs.Pending.{HasStepped, IsDue, Leaves};
-ghost use Rattle.si_descend.specs.Searching.{AreOpenBelow, IsAtNode, IsOpenAt, IsReady};
+ghost use Rattle.si_descend.specs.Pending.{like, pending_at, HasStepped, IsDue, Leaves};
+ghost use Rattle.si_descend.specs.Searching.{IsAtNode, IsOpenAt, IsReady};
 
-use crate::attempts::{Attempts, Lookup, Siblings, attempts_at, child_by_head, child_in_order};
-use crate::heads::{Wanted, asked_of};
+use crate::attempts::{Attempts, attempts_at, child_at};
+use crate::heads::asked_of;
 use crate::search::{Search, enter};
 use crate::subtrees::is_open_below;
 use crate::taken::Taken;
@@ -33,11 +32,27 @@ pub struct Pending {
     pub(crate) taken_mark: usize,
 }
 
+impl Pending {
+    /// A node that is to be visited below those whose bindings the trails hold.
+    #[inline(always)]
+    pub(crate) fn at(node: NodeId, trail: &Trail<&[Cell]>, taken: &Taken) -> Pending
+        ensures { result ≡ pending_at node trail.now taken.now }
+    {
+        Pending {
+            node,
+            whole: false,
+            mark: trail.mark(),
+            taken_mark: taken.mark(),
+        }
+    }
+}
+
 /// Visits a node that was pending, and tells whether it is open. Where it is, those of its children
 /// that can be open are pending afterwards, after all that were.
 ///
-/// The trails are first brought back to what they were above the node. Where memory runs out, some
-/// of the children may be pending.
+/// The trails are first brought back to what they were above the node, but where all nodes below it
+/// are known to be open: nothing is bound there, and they stay. Where memory runs out, some of the
+/// children may be pending.
 #[inline(always)]
 pub(crate) fn step<'a>(
     search: &Search<'a>,
@@ -49,7 +64,7 @@ pub(crate) fn step<'a>(
 ) -> Result<bool, AllocError>
     requires ready { IsReady search.now }
     requires due { IsDue search.now trail.old taken.old next }
-    ensures steps { IfOk result (HasStepped search.now next.node trail.new taken.new
+    ensures steps { IfOk result (HasStepped search.now next trail.new taken.new
         pending.old.items pending.new.items) }
     ensures grows { Grows (take next.mark trail.old.pairs) trail.new.pairs }
     ensures slots { trail.new.slots ≡ trail.old.slots }
@@ -64,12 +79,12 @@ pub(crate) fn step<'a>(
         trail.old.pairs scratch.old → AreNoLongerThan n trail.new.pairs) }
     ensures room { vec_capacity pending.old ≤ vec_capacity pending.new }
 {
-    trail.undo(next.mark);
-    taken.undo(next.taken_mark);
     if next.whole {
-        push_all(search, next.node, trail, taken, pending)?;
+        push_all(search, next, pending)?;
         return Ok(true);
     }
+    trail.undo(next.mark);
+    taken.undo(next.taken_mark);
     if !enter(search, next.node, scratch, trail, taken)? {
         return Ok(false);
     }
@@ -79,6 +94,7 @@ pub(crate) fn step<'a>(
 
 // Puts the children of an open node into the list, but for some that are closed. Its bindings are
 // solved.
+#[inline(always)]
 fn push_open<'a>(
     search: &Search<'a>,
     node: NodeId,
@@ -88,8 +104,8 @@ fn push_open<'a>(
 ) -> Result<(), AllocError>
     requires there { IsAtNode search.now node trail.now taken.now }
     requires opened { IsOpenAt search.now node }
-    ensures leaves { OnOk result (Leaves search.now node trail.now taken.now
-        pending.old.items pending.new.items) }
+    ensures leaves { OnOk result (Leaves search.now (pending_at node trail.now taken.now) trail.now
+        taken.now pending.old.items pending.new.items) }
     ensures full { OnErr result (AtNode search.now.tree.now node (λ n. vec_capacity pending.old
         < vec_len pending.old + length (children_of n.content))) }
     ensures room { vec_capacity pending.old ≤ vec_capacity pending.new }
@@ -99,114 +115,72 @@ fn push_open<'a>(
     };
     let wanted = asked_of(search, node, trail);
     if is_open_below(search, node, wanted, trail) {
-        return push_all(search, node, trail, taken, pending);
+        let here = Pending {
+            whole: true,
+            ..Pending::at(node, trail, taken)
+        };
+        return push_all(search, here, pending);
     }
-    match attempts_at(search, node, wanted) {
-        Attempts::InOrder(siblings) => {
-            push_in_order(search, node, siblings, trail, taken, pending)
-        }
-        Attempts::ByHeads(heads) => push_by_heads(search, node, heads, trail, taken, pending),
+    let attempts = attempts_at(search, node, wanted);
+    // So there is a loop for each way, which doesn't ask at each place which it is.
+    match attempts {
+        Attempts::InOrder(_) => push_tried(search, node, attempts, trail, taken, pending),
+        Attempts::ByHeads(_) => push_tried(search, node, attempts, trail, taken, pending),
     }
 }
 
-// Puts all children into the list, where all nodes below are open.
+// Puts all children of a node into the list, with its marks.
 #[inline(always)]
-fn push_all<'a>(
-    search: &Search<'a>,
-    node: NodeId,
-    trail: &Trail<&'a [Cell]>,
-    taken: &Taken,
+fn push_all(
+    search: &Search<'_>,
+    here: Pending,
     pending: &mut Vec<Pending>,
 ) -> Result<(), AllocError>
-    requires ready { IsReady search.now }
-    requires node { IsNode search.now.tree.now node }
-    requires opened { AreOpenBelow search.now node }
-    ensures leaves { OnOk result (Leaves search.now node trail.now taken.now
-        pending.old.items pending.new.items) }
-    ensures full { OnErr result (AtNode search.now.tree.now node (λ n. vec_capacity pending.old
+    requires { IsNode search.now.tree.now here.node }
+    ensures pushes { OnOk result (AtNode search.now.tree.now here.node (λ n.
+        pending.new.items ≡ pending.old.items ++ like here (children_of n.content))) }
+    ensures full { OnErr result (AtNode search.now.tree.now here.node (λ n. vec_capacity pending.old
         < vec_len pending.old + length (children_of n.content))) }
     ensures room { vec_capacity pending.old ≤ vec_capacity pending.new }
 {
-    let children = search.tree.children(node);
-    let mark = trail.mark();
-    let taken_mark = taken.mark();
+    let children = search.tree.children(here.node);
     pending.reserve(children.len())?;
     for child in children {
         pending.push_reserved(Pending {
             node: *child,
-            mark,
-            taken_mark,
-            whole: true,
+            ..here
         });
     }
     Ok(())
 }
 
-// Puts those into the list that can be open, where they are tried in order.
+// Puts those that are tried, and can be open, into the list.
 #[inline(always)]
-fn push_in_order<'a>(
+fn push_tried<'a>(
     search: &Search<'a>,
     node: NodeId,
-    siblings: Siblings<'a>,
+    attempts: Attempts<'a>,
     trail: &Trail<&'a [Cell]>,
     taken: &Taken,
     pending: &mut Vec<Pending>,
 ) -> Result<(), AllocError>
     requires there { IsAtNode search.now node trail.now taken.now }
-    requires wanted { IsWanted search.now node trail.now.pairs siblings.wanted }
-    requires attempts { AreAttempts search.now node (InOrder siblings) }
-    ensures leaves { OnOk result (Leaves search.now node trail.now taken.now
-        pending.old.items pending.new.items) }
+    requires wanted { IsWanted search.now node trail.now.pairs (wanted_of attempts) }
+    requires attempts { AreAttempts search.now node attempts }
+    ensures leaves { OnOk result (Leaves search.now (pending_at node trail.now taken.now) trail.now
+        taken.now pending.old.items pending.new.items) }
     ensures full { OnErr result (AtNode search.now.tree.now node (λ n. vec_capacity pending.old
         < vec_len pending.old + length (children_of n.content))) }
     ensures room { vec_capacity pending.old ≤ vec_capacity pending.new }
 {
-    let mark = trail.mark();
-    let taken_mark = taken.mark();
-    for place in 0..siblings.children.len() {
-        let Some(child) = child_in_order(search, node, siblings, place) else {
+    let here = Pending::at(node, trail, taken);
+    for place in 0..attempts.end() {
+        let Some(child) = child_at(search, node, attempts, place) else {
             continue;
         };
         pending.push(Pending {
             node: child,
-            mark,
-            taken_mark,
-            whole: false,
-        })?;
-    }
-    Ok(())
-}
-
-// The same where they are looked up by their heads.
-#[inline(always)]
-fn push_by_heads<'a>(
-    search: &Search<'a>,
-    node: NodeId,
-    heads: Lookup,
-    trail: &Trail<&'a [Cell]>,
-    taken: &Taken,
-    pending: &mut Vec<Pending>,
-) -> Result<(), AllocError>
-    requires there { IsAtNode search.now node trail.now taken.now }
-    requires wanted { IsWanted search.now node trail.now.pairs (Some heads.wanted) }
-    requires attempts { AreAttempts search.now node (ByHeads heads) }
-    ensures leaves { OnOk result (Leaves search.now node trail.now taken.now
-        pending.old.items pending.new.items) }
-    ensures full { OnErr result (AtNode search.now.tree.now node (λ n. vec_capacity pending.old
-        < vec_len pending.old + length (children_of n.content))) }
-    ensures room { vec_capacity pending.old ≤ vec_capacity pending.new }
-{
-    let mark = trail.mark();
-    let taken_mark = taken.mark();
-    for place in 0..heads.end {
-        let Some(child) = child_by_head(search, node, heads, place) else {
-            continue;
-        };
-        pending.push(Pending {
-            node: child,
-            mark,
-            taken_mark,
-            whole: false,
+            ..here
         })?;
     }
     Ok(())

@@ -121,14 +121,7 @@ pub(crate) fn visit_all<'a>(
     ensures list_room { vec_capacity pending.old ≤ vec_capacity pending.new }
     ensures room { vec_capacity out.old ≤ vec_capacity out.new }
 {
-    let mark = trail.mark();
-    let taken_mark = taken.mark();
-    pending.push(Pending {
-        node,
-        mark,
-        taken_mark,
-        whole: false,
-    })?;
+    pending.push(Pending::at(node, trail, taken))?;
     let mut passed: u64 = 0;
     while let Some(next) = pending.pop() {
         if !step(search, next, scratch, trail, taken, pending)? {

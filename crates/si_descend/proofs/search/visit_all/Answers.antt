@@ -5,7 +5,7 @@ use Rattle.si_legal.specs.Counts.{node_count}
 use Rattle.si_unify.proofs.RoomLaws.{same_room, room_on}
 use Rattle.si_tree.specs.Reading.{IsNode}
 use Rattle.si_descend.specs.declared.pending.Pending.{Pending}
-use Rattle.si_descend.specs.Pending.{HasStepped, LacksRoom}
+use Rattle.si_descend.specs.Pending.{pending_at, HasStepped, LacksRoom}
 use Rattle.si_descend.proofs.EnoughLaws.{enough_still}
 use Rattle.si_descend.proofs.PendingLaws.{one_passed, waiting_starts}
 use Rattle.si_descend.proofs.Turns.{IsFinding, due_node, finding_starts, finding_over, finding_on, finding_few_children, finding_few, finding_short, finding_small, finding_ends, finding_fits, waiting_due, waiting_over, waiting_more, waiting_grows}
@@ -13,19 +13,19 @@ use Rattle.si_descend.proofs.search.visit_all.Goals as goal
 
 pub returns-in_err-push-clause-full : goal.returns-in_err-push-clause-full
 returns-in_err-push-clause-full c =
-    let entry : Pending = record { node = c.args.node; mark = c.mark-mark.result; taken_mark = c.mark-taken_mark.result; whole = false } in
-    let begun : IsFinding c.args.search.now c.args.node (entry ∷ []) c.args.out.now.items c.args.out.now.items 0 = finding_starts c.args.search.now c.requires.above.searching.ready c.args.node c.args.out.now.items c.mark-mark.result c.mark-taken_mark.result (entry ∷ []) c.requires.above.node refl in
+    let entry : Pending = pending_at c.args.node c.args.trail.now c.args.taken.now in
+    let begun : IsFinding c.args.search.now c.args.node (entry ∷ []) c.args.out.now.items c.args.out.now.items 0 = finding_starts c.args.search.now c.requires.above.searching.ready c.args.node c.args.out.now.items c.args.trail.now c.args.taken.now (entry ∷ []) c.requires.above.node refl in
     let lack : LacksRoom c.args.search.now c.args.node c.args.trail.now.pairs c.args.scratch.now c.args.pending.now c.args.out.now = λ n enough few place.
     omega (arith, few, finding_short c.args.search.now c.requires.above.searching.ready c.args.node c.args.out.now.items (entry ∷ []) c.args.out.now.items 0 begun, c.in_err-push.ensures.full, ap length c.requires.empty, c.args.pending.now.ok) in
     on_err _ lack
 
 pub loop-next-init : goal.loop-next-init
 loop-next-init c =
-    let entry : Pending = record { node = c.args.node; mark = c.mark-mark.result; taken_mark = c.mark-taken_mark.result; whole = false } in
-    let pushed : c.push.new.self.items ≡ entry ∷ [] = c.in_ok-push.ensures.items ∙ ap (λ l. l ++ entry ∷ []) c.requires.empty in
+    let entry : Pending = pending_at c.args.node c.args.trail.now c.args.taken.now in
+    let pushed : c.push.new.self.items ≡ entry ∷ [] = c.in_ok-push.ensures.items ∙ ap (λ l. l ++ c.at.result ∷ []) c.requires.empty ∙ ap (λ p. p ∷ []) c.at.ensures in
     record {
-      found_so_far = finding_starts c.args.search.now c.requires.above.searching.ready c.args.node c.args.out.now.items c.mark-mark.result c.mark-taken_mark.result c.push.new.self.items c.requires.above.node pushed;
-      still_waiting = waiting_starts c.args.search.now c.args.node c.mark-mark.result c.mark-taken_mark.result c.args.trail.now c.args.taken.now c.push.new.self.items c.mark-mark.ensures.number c.mark-taken_mark.ensures pushed c.requires.above;
+      found_so_far = finding_starts c.args.search.now c.requires.above.searching.ready c.args.node c.args.out.now.items c.args.trail.now c.args.taken.now c.push.new.self.items c.requires.above.node pushed;
+      still_waiting = waiting_starts c.args.search.now c.args.node c.args.trail.now c.args.taken.now c.push.new.self.items pushed c.requires.above;
       same_slots = refl;
       same_table = refl;
       enough_still = λ n enough. enough;
@@ -59,7 +59,7 @@ returns-in_err-step-clause-full c =
 
 pub loop-next-preserved-then-not-branch : goal.loop-next-preserved-then-not-branch
 loop-next-preserved-then-not-branch c =
-    let stepped : HasStepped c.args.search.now c.in-Some.next.node c.step.new.trail c.step.new.taken c.pop.new.self.items c.step.new.pending.items false = subst (HasStepped c.args.search.now c.in-Some.next.node c.step.new.trail c.step.new.taken c.pop.new.self.items c.step.new.pending.items) c.if-not-branch.true c.in_ok-step.ensures.steps in
+    let stepped : HasStepped c.args.search.now c.in-Some.next c.step.new.trail c.step.new.taken c.pop.new.self.items c.step.new.pending.items false = subst (HasStepped c.args.search.now c.in-Some.next c.step.new.trail c.step.new.taken c.pop.new.self.items c.step.new.pending.items) c.if-not-branch.true c.in_ok-step.ensures.steps in
     record {
       found_so_far = finding_over c.args.search.now c.requires.above.searching.ready c.args.node c.args.out.now.items c.pop.new.self.items c.in-Some.next c.loop-next.pending.items c.in-Some.ensures.items c.loop-next.out.items c.loop-next.passed c.loop-next.invariant.found_so_far c.step.new.trail c.step.new.taken c.step.new.pending.items (due_node c.args.search.now c.loop-next.trail c.loop-next.taken c.in-Some.next (waiting_due c.args.search.now c.args.trail.now.pairs c.args.taken.now.pairs c.loop-next.trail c.loop-next.trail c.loop-next.taken c.loop-next.taken c.pop.new.self.items c.in-Some.next c.loop-next.pending.items c.loop-next.pending.items c.in-Some.ensures.items c.loop-next.invariant.still_waiting)) stepped;
       still_waiting = waiting_over c.args.search.now c.args.trail.now.pairs c.args.taken.now.pairs c.loop-next.trail c.step.new.trail c.loop-next.taken c.step.new.taken c.pop.new.self.items c.in-Some.next c.step.new.pending.items c.loop-next.pending.items c.in-Some.ensures.items c.loop-next.invariant.still_waiting c.in_ok-step.ensures.slots c.in_ok-step.ensures.taken_slots c.in_ok-step.ensures.grows c.in_ok-step.ensures.taken_grows stepped.1;
@@ -73,7 +73,7 @@ loop-next-preserved-then-not-branch c =
 
 pub overflow_add-passed : goal.overflow_add-passed
 overflow_add-passed c =
-    let stepped : HasStepped c.args.search.now c.in-Some.next.node c.step.new.trail c.step.new.taken c.pop.new.self.items c.step.new.pending.items true = subst (HasStepped c.args.search.now c.in-Some.next.node c.step.new.trail c.step.new.taken c.pop.new.self.items c.step.new.pending.items) c.if-not-branch.false c.in_ok-step.ensures.steps in
+    let stepped : HasStepped c.args.search.now c.in-Some.next c.step.new.trail c.step.new.taken c.pop.new.self.items c.step.new.pending.items true = subst (HasStepped c.args.search.now c.in-Some.next c.step.new.trail c.step.new.taken c.pop.new.self.items c.step.new.pending.items) c.if-not-branch.false c.in_ok-step.ensures.steps in
     let node : IsNode c.args.search.now.tree.now c.in-Some.next.node = due_node c.args.search.now c.loop-next.trail c.loop-next.taken c.in-Some.next (waiting_due c.args.search.now c.args.trail.now.pairs c.args.taken.now.pairs c.loop-next.trail c.loop-next.trail c.loop-next.taken c.loop-next.taken c.pop.new.self.items c.in-Some.next c.loop-next.pending.items c.loop-next.pending.items c.in-Some.ensures.items c.loop-next.invariant.still_waiting) in
     omega (
       arith,
@@ -86,7 +86,7 @@ postings-requires c = due_node c.args.search.now c.loop-next.trail c.loop-next.t
 
 pub loop-next-smaller : goal.loop-next-smaller
 loop-next-smaller c =
-    let stepped : HasStepped c.args.search.now c.in-Some.next.node c.step.new.trail c.step.new.taken c.pop.new.self.items c.step.new.pending.items true = subst (HasStepped c.args.search.now c.in-Some.next.node c.step.new.trail c.step.new.taken c.pop.new.self.items c.step.new.pending.items) c.if-not-branch.false c.in_ok-step.ensures.steps in
+    let stepped : HasStepped c.args.search.now c.in-Some.next c.step.new.trail c.step.new.taken c.pop.new.self.items c.step.new.pending.items true = subst (HasStepped c.args.search.now c.in-Some.next c.step.new.trail c.step.new.taken c.pop.new.self.items c.step.new.pending.items) c.if-not-branch.false c.in_ok-step.ensures.steps in
     let node : IsNode c.args.search.now.tree.now c.in-Some.next.node = due_node c.args.search.now c.loop-next.trail c.loop-next.taken c.in-Some.next (waiting_due c.args.search.now c.args.trail.now.pairs c.args.taken.now.pairs c.loop-next.trail c.loop-next.trail c.loop-next.taken c.loop-next.taken c.pop.new.self.items c.in-Some.next c.loop-next.pending.items c.loop-next.pending.items c.in-Some.ensures.items c.loop-next.invariant.still_waiting) in
     let turn = finding_on c.args.search.now c.requires.above.searching.ready c.args.node c.args.out.now.items c.pop.new.self.items c.in-Some.next c.loop-next.pending.items c.in-Some.ensures.items c.loop-next.out.items c.loop-next.passed c.loop-next.invariant.found_so_far node.0 node.1 c.step.new.trail c.step.new.taken c.step.new.pending.items _ _ stepped refl refl in
     one_passed (node_count c.args.search.now.tree.now) c.loop-next.passed (length c.loop-next.pending.items) (length c.step.new.pending.items)
@@ -95,7 +95,7 @@ loop-next-smaller c =
 
 pub loop-next-preserved : goal.loop-next-preserved
 loop-next-preserved c =
-    let stepped : HasStepped c.args.search.now c.in-Some.next.node c.step.new.trail c.step.new.taken c.pop.new.self.items c.step.new.pending.items true = subst (HasStepped c.args.search.now c.in-Some.next.node c.step.new.trail c.step.new.taken c.pop.new.self.items c.step.new.pending.items) c.if-not-branch.false c.in_ok-step.ensures.steps in
+    let stepped : HasStepped c.args.search.now c.in-Some.next c.step.new.trail c.step.new.taken c.pop.new.self.items c.step.new.pending.items true = subst (HasStepped c.args.search.now c.in-Some.next c.step.new.trail c.step.new.taken c.pop.new.self.items c.step.new.pending.items) c.if-not-branch.false c.in_ok-step.ensures.steps in
     let node : IsNode c.args.search.now.tree.now c.in-Some.next.node = due_node c.args.search.now c.loop-next.trail c.loop-next.taken c.in-Some.next (waiting_due c.args.search.now c.args.trail.now.pairs c.args.taken.now.pairs c.loop-next.trail c.loop-next.trail c.loop-next.taken c.loop-next.taken c.pop.new.self.items c.in-Some.next c.loop-next.pending.items c.loop-next.pending.items c.in-Some.ensures.items c.loop-next.invariant.still_waiting) in
     record {
       found_so_far = finding_on c.args.search.now c.requires.above.searching.ready c.args.node c.args.out.now.items c.pop.new.self.items c.in-Some.next c.loop-next.pending.items c.in-Some.ensures.items c.loop-next.out.items c.loop-next.passed c.loop-next.invariant.found_so_far node.0 node.1 c.step.new.trail c.step.new.taken c.step.new.pending.items c.postings.result c.append_to.new.others.items stepped (c.postings.ensures node.0 node.1) c.in_ok-append_to.ensures.ok;
@@ -115,7 +115,7 @@ returns-in_err-append_to-clause-grows c =
 
 pub returns-in_err-append_to-clause-full : goal.returns-in_err-append_to-clause-full
 returns-in_err-append_to-clause-full c =
-    let stepped : HasStepped c.args.search.now c.in-Some.next.node c.step.new.trail c.step.new.taken c.pop.new.self.items c.step.new.pending.items true = subst (HasStepped c.args.search.now c.in-Some.next.node c.step.new.trail c.step.new.taken c.pop.new.self.items c.step.new.pending.items) c.if-not-branch.false c.in_ok-step.ensures.steps in
+    let stepped : HasStepped c.args.search.now c.in-Some.next c.step.new.trail c.step.new.taken c.pop.new.self.items c.step.new.pending.items true = subst (HasStepped c.args.search.now c.in-Some.next c.step.new.trail c.step.new.taken c.pop.new.self.items c.step.new.pending.items) c.if-not-branch.false c.in_ok-step.ensures.steps in
     let node : IsNode c.args.search.now.tree.now c.in-Some.next.node = due_node c.args.search.now c.loop-next.trail c.loop-next.taken c.in-Some.next (waiting_due c.args.search.now c.args.trail.now.pairs c.args.taken.now.pairs c.loop-next.trail c.loop-next.trail c.loop-next.taken c.loop-next.taken c.pop.new.self.items c.in-Some.next c.loop-next.pending.items c.loop-next.pending.items c.in-Some.ensures.items c.loop-next.invariant.still_waiting) in
     let lack : LacksRoom c.args.search.now c.args.node c.args.trail.now.pairs c.args.scratch.now c.args.pending.now c.args.out.now = λ n enough few place.
     omega (

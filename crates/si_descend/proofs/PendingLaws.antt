@@ -17,7 +17,7 @@ use Rattle.si_changes.proofs.Frames.{legal_nodes}
 use Rattle.si_tree.specs.Reading.{IsNode, children_of}
 use Rattle.si_descend.specs.declared.pending.Pending.{Pending}
 use Rattle.si_descend.specs.declared.search.Search.{Search}
-use Rattle.si_descend.specs.Pending.{cut, MayVisit, IsDue, AreToVisit, like, pending_at}
+use Rattle.si_descend.specs.Pending.{AreWaiting, IsRisingFrom, cut, MayVisit, IsDue, AreToVisit, like, pending_at}
 use Rattle.si_descend.specs.Searching.{IsReady, IsAboveNode, IsOpenAt, IsClosedAt}
 use Rattle.si_descend.proofs.Below.{IsChildOf}
 use Rattle.si_descend.proofs.RightLaws.{child_among, among_child}
@@ -57,10 +57,6 @@ one_pending_more old items new p tops key e f =
     ∙ ap (λ l. old ++ l) (sym (map-append (λ k. record { node = k; mark = p.mark; taken_mark = p.taken_mark; whole = p.whole }) tops (key ∷ [])))
 
 -- ---- marks
-abbrev pub IsRisingFrom : ℕ → ℕ → List Pending → Type 0
-IsRisingFrom mark taken_mark [] = Unit {0}
-IsRisingFrom mark taken_mark (p ∷ ps) = (mark ≤ p.mark) × (taken_mark ≤ p.taken_mark) × IsRisingFrom p.mark p.taken_mark ps
-
 abbrev pub IsBefore : ℕ → ℕ → Pending → Type 0
 IsBefore mark taken_mark p = (p.mark ≤ mark) × (p.taken_mark ≤ taken_mark)
 
@@ -124,14 +120,6 @@ cut_same m n old new e less within grows = same_trail (cut m new) (cut m old) e 
 -- as long as it was, it is the trail of then
 pub undone : {T : Type 0} (n : ℕ) (old new : Trail T) → new.slots ≡ old.slots → new.pairs ≡ take n old.pairs → cut n old ≡ new
 undone n old new e f = same_trail (cut n old) new (sym e) (sym f)
-
--- all that wait are as they were when they were put there, and the trails hold what they held at
--- first
-pub record AreWaiting (search : Search) (base : Pairs) (first : List (ℕ × ⊤)) (trail : Trail (Bor (List Cell))) (taken : Trail ⊤) (entries : List Pending) : Type 0 where
-  pub due : AllByRecursion (IsDue search trail taken) entries
-  pub rising : IsRisingFrom (length base) (length first) entries
-  pub grows : Grows base trail.pairs
-  pub taken_grows : Grows first taken.pairs
 
 module _ (search : Search) where
   pub due_at_once : (key : ℕ) (trail : Trail (Bor (List Cell))) (taken : Trail ⊤) → IsAboveNode search key trail taken → IsDue search trail taken (pending_at key trail taken)
@@ -230,6 +218,3 @@ pub one_passed : (most passed old new : ℕ) → passed + 1 ≤ most → new ≤
 one_passed most passed old new less few =
     let one : most - passed ≡ suc (most - (passed + 1)) = omega (arith, less) in
     omega (arith, few, ap (λ n. times n (most + 1)) one)
-
-pub one_closed : (most passed old new : ℕ) → new < old → left_to_do most passed new < left_to_do most passed old
-one_closed most passed old new less = omega (arith, less)

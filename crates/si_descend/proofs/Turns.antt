@@ -5,6 +5,8 @@ use Rattle.std.specs.Prelude.{Vec}
 use Rattle.std.proofs.Common.{◌≡◌, ℕ, ◌+◌, ◌<◌, ◌≤◌, ◌^◌, Bool, true, false, List, [], ◌∷◌, ◌++◌, length, take, vec_capacity, refl, ap, sym, ◌∙◌, subst, arith, append_assoc, append-nil}
 use Rattle.std.proofs.lemmas.List.{length-append}
 use Rattle.si_defs.specs.Substitutions.{Grows}
+use Rattle.si_defs.proofs.ListLaws.{all_front, all_back, all_weaker}
+use Rattle.std.specs.List.{AllByRecursion}
 use Rattle.si_trail.specs.Trails.{Trail}
 use Rattle.si_flat.specs.declared.Cell.{Cell}
 use Rattle.si_flat.specs.Cells.{Term}
@@ -17,11 +19,11 @@ use Rattle.si_tree.specs.Reading.{IsNode, children_of, postings_of}
 use Rattle.si_descend.specs.declared.pending.Pending.{Pending}
 use Rattle.si_descend.specs.declared.search.Search.{Search}
 use Rattle.si_descend.specs.Lending.{HasRoomForAnswers}
-use Rattle.si_descend.specs.Pending.{cut, IsDue, Leaves, MayVisit, HasStepped, pending_at}
+use Rattle.si_descend.specs.Pending.{AreWaiting, cut, HasTurned, IsDue, IsNext, Leaves, MayVisit, HasStepped, pending_at}
 use Rattle.si_descend.specs.Searching.{IsReady, IsClosedAt, IsOpenAt, HasFound}
 use Rattle.si_descend.proofs.Passing.{HasPassed, passing_starts, passing_over, passed_few, next_new, apart_few}
 use Rattle.si_descend.proofs.Gathering.{HasGathered, none_in, gathered_none, gathered_more, found_in_end, gathered_fits}
-use Rattle.si_descend.proofs.PendingLaws.{keys_of, keys_long, turned, passed_over, passed_on, children_few, AreWaiting, waiting_next, waiting_on, grown}
+use Rattle.si_descend.proofs.PendingLaws.{keys_of, keys_long, turned, passed_over, passed_on, children_few, waiting_on, grown}
 
 -- so many open nodes were passed, and their postings stand after the old ones
 pub record IsFinding (search : Search) (top : ℕ) (entries : List Pending) (old now : List Posting) (n : ℕ) : Type 0 where
@@ -78,6 +80,46 @@ module _ (search : Search) (ready : IsReady search) (top : ℕ) (old : List Post
       pub finding_few_children : length front + length (children_of node.content) ≤ node_count search.tree.now
       finding_few_children = children_few search ready top front next entries h.passed are h.nodes node has
 
+  -- ---- up to an open node
+  -- those that were closed are gone
+  finding_before : (trail : Trail (Bor (List Cell))) (taken : Trail ⊤) (front closed : List Pending) → AllByRecursion (λ p. IsNode search.tree.now p.node) closed → AllByRecursion (λ p. IsClosedAt search p.node) closed → (now : List Posting) (n : ℕ) → IsFinding search top (front ++ closed) old now n → IsFinding search top front old now n
+  finding_before trail taken front [] nodes shut now n h = subst (λ l. IsFinding search top l old now n) (append-nil front) h
+  finding_before trail taken front (p ∷ ps) nodes shut now n h =
+      let one = finding_before trail taken (front ++ p ∷ []) ps nodes.1 shut.1 now n (subst (λ l. IsFinding search top l old now n) (sym (append_assoc front (p ∷ []) ps)) h) in
+      finding_over front p (front ++ p ∷ []) refl now n one trail taken front nodes.0 (shut.0, refl)
+
+  module _ (trail : Trail (Bor (List Cell))) (taken : Trail ⊤) (entries : List Pending) (due : AllByRecursion (IsDue search trail taken) entries) (now : List Posting) (n : ℕ) (h : IsFinding search top entries old now n) where
+    nodes : AllByRecursion (λ p. IsNode search.tree.now p.node) entries
+    nodes = all_weaker (IsDue search trail taken) (λ p. IsNode search.tree.now p.node) entries (λ p d. due_node search trail taken p d) due
+
+    -- all were closed
+    pub finding_none : AllByRecursion (λ p. IsClosedAt search p.node) entries → IsFinding search top [] old now n
+    finding_none shut = finding_before trail taken [] entries nodes shut now n h
+
+    module _ (front : List Pending) (next : Pending) (closed : List Pending) (is : IsNext search entries front next closed) where
+      next_nodes : AllByRecursion (λ p. IsNode search.tree.now p.node) ((front ++ next ∷ []) ++ closed)
+      next_nodes = subst (AllByRecursion (λ p. IsNode search.tree.now p.node)) is.are nodes
+
+      pub next_node : IsNode search.tree.now next.node
+      next_node = (all_back (λ p. IsNode search.tree.now p.node) front (next ∷ []) (all_front (λ p. IsNode search.tree.now p.node) (front ++ next ∷ []) closed next_nodes)).0
+
+      up_to_next : IsFinding search top (front ++ next ∷ []) old now n
+      up_to_next =
+          finding_before trail taken (front ++ next ∷ []) closed (all_back (λ p. IsNode search.tree.now p.node) (front ++ next ∷ []) closed next_nodes) is.closed_are now n
+          (subst (λ l. IsFinding search top l old now n) is.are h)
+
+      pub next_few_children : (node : Node Term) → HasNode search.tree.now next.node node → length front + length (children_of node.content) ≤ node_count search.tree.now
+      next_few_children node has = finding_few_children front next (front ++ next ∷ []) refl now n up_to_next node has
+
+    module _ (key : ℕ) (new : Trail (Bor (List Cell))) (after : Trail ⊤) (mine : List Pending) (t : HasTurned search key new after entries mine) where
+      pub turned_node : IsNode search.tree.now key
+      turned_node = subst (IsNode search.tree.now) t.node (next_node t.front t.next t.closed t.is)
+
+      pub finding_turned : (own later : List Posting) → own ≡ postings_of turned_node.0.content → later ≡ now ++ own → IsFinding search top mine old later (n + 1)
+      finding_turned own later e f =
+          let node = turned_node in
+          finding_on t.front t.next (t.front ++ t.next ∷ []) refl now n (up_to_next t.front t.next t.closed t.is) node.0 (subst (λ k. HasNode search.tree.now k node.0) (sym t.node) node.1) new after mine own later t.stepped e f
+
   -- ---- bounds
   module _ (entries : List Pending) (now : List Posting) (n : ℕ) (h : IsFinding search top entries old now n) where
     pub finding_few : n ≤ node_count search.tree.now
@@ -124,9 +166,6 @@ found_closed search ready key is old closed = finding_ends search ready key old 
 
 -- ---- the trails
 module _ (search : Search) (base : Pairs) (first : List (ℕ × ⊤)) (old new : Trail (Bor (List Cell))) (before after : Trail ⊤) (front : List Pending) (next : Pending) (mine entries : List Pending) (are : entries ≡ front ++ next ∷ []) (h : AreWaiting search base first old before entries) where
-  pub waiting_due : IsDue search old before next
-  waiting_due = waiting_next search base first old new before after front next (subst (AreWaiting search base first old before) are h)
-
   module _ (e : new.slots ≡ old.slots) (f : after.slots ≡ before.slots) (more : Grows (take next.mark old.pairs) new.pairs) (taken_more : Grows (take next.taken_mark before.pairs) after.pairs) where
     pub waiting_over : mine ≡ front → AreWaiting search base first new after mine
     waiting_over same =

@@ -1,8 +1,8 @@
 -- Nodes that a search is still to visit.
 use Rattle.std.specs.Borrow.{Bor}
-use Rattle.std.specs.Prelude.{◌≡◌, ℕ, ◌≤◌, ◌⊎◌, Bool, true, false, ⊤, List, ◌++◌, length, map, take, Vec, vec_capacity}
+use Rattle.std.specs.Prelude.{◌≡◌, ℕ, ◌+◌, ◌≤◌, ◌⊎◌, Bool, true, false, ⊤, List, [], ◌∷◌, ◌++◌, Option, None, Some, length, map, take, Vec, vec_capacity}
 use Rattle.std.specs.List.{AllByRecursion}
-use Rattle.si_defs.specs.Substitutions.{IsAmong, AreDistinct}
+use Rattle.si_defs.specs.Substitutions.{IsAmong, AreDistinct, Grows}
 use Rattle.si_trail.specs.Trails.{Trail}
 use Rattle.si_flat.specs.declared.Cell.{Cell}
 use Rattle.si_legal.specs.declared.Posting.{Posting}
@@ -72,7 +72,57 @@ HasStepped search next trail taken old new true =
     IsOpenAt search next.node × Leaves search next trail taken old new
 HasStepped search next trail taken old new false = IsClosedAt search next.node × (new ≡ old)
 
+-- ---- nodes that wait
+-- no trail is shorter above one than above those before it, nor than these marks
+abbrev pub IsRisingFrom : ℕ → ℕ → List Pending → Type 0
+IsRisingFrom mark taken_mark [] = Unit {0}
+IsRisingFrom mark taken_mark (p ∷ ps) =
+    (mark ≤ p.mark) × (taken_mark ≤ p.taken_mark) × IsRisingFrom p.mark p.taken_mark ps
+
+-- all that wait are as they were when they were put there, and the trails hold what they held at
+-- first
+pub record AreWaiting (search : Search) (base : Pairs) (first : List (ℕ × ⊤))
+    (trail : Trail (Bor (List Cell))) (taken : Trail ⊤) (entries : List Pending) : Type 0 where
+  pub due : AllByRecursion (IsDue search trail taken) entries
+  pub rising : IsRisingFrom (length base) (length first) entries
+  pub grows : Grows base trail.pairs
+  pub taken_grows : Grows first taken.pairs
+
+-- those that come after this one are closed
+pub record IsNext (search : Search) (entries front : List Pending) (next : Pending)
+    (closed : List Pending) : Type 0 where
+  pub are : entries ≡ (front ++ next ∷ []) ++ closed
+  pub closed_are : AllByRecursion (λ p. IsClosedAt search p.node) closed
+
+-- the last of them that is open was visited; or all are closed
+pub record HasTurned (search : Search) (key : ℕ) (trail : Trail (Bor (List Cell)))
+    (taken : Trail ⊤) (old new : List Pending) : Type 0 where
+  pub front : List Pending
+  pub next : Pending
+  pub closed : List Pending
+  pub is : IsNext search old front next closed
+  pub node : next.node ≡ key
+  pub stepped : HasStepped search next trail taken front new true
+
+abbrev pub HasTurnedTo : Search → Trail (Bor (List Cell)) → Trail ⊤ → List Pending → List Pending
+    → Option ℕ → Type 0
+HasTurnedTo search trail taken old new (Some key) = HasTurned search key trail taken old new
+HasTurnedTo search trail taken old new None =
+    AllByRecursion (λ p. IsClosedAt search p.node) old × (new ≡ [])
+
 -- ---- what is lacking where memory runs out
+-- room for the children of one of them beside those before it, or to solve; those after it are
+-- closed
+pub record LacksTurn {A : Type 0} (search : Search) (pairs : Pairs) (room : SolverRoom)
+    (pending : Vec Pending A) : Type 0 where
+  pub front : List Pending
+  pub next : Pending
+  pub closed : List Pending
+  pub is : IsNext search pending.items front next closed
+  pub lack : AtNode search.tree.now next.node (λ node. (n : ℕ)
+      → IsEnoughForTree n search.tree.now search.slots pairs room
+      → length front + length (children_of node.content) ≤ vec_capacity pending → ⊥)
+
 -- room for what is found below the node, for all nodes to be pending, or to solve
 abbrev pub LacksRoom : {A B : Type 0} → Search → ℕ → Pairs → SolverRoom → Vec Pending A
     → Vec Posting B → Type 0

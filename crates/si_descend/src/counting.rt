@@ -3,7 +3,7 @@ ghost use Rattle.std.specs.Prelude.{◌≡◌, [], IfOk};
 ghost use Rattle.si_descend.specs.Counting.{HasCounted};
 ghost use Rattle.si_descend.specs.Searching.{IsAboveNode};
 
-use crate::pending::{Pending, step};
+use crate::pending::{Pending, next_open};
 use crate::search::Search;
 use crate::taken::Taken;
 use si_flat::Cell;
@@ -47,12 +47,9 @@ pub(crate) fn count_all<'a>(
     pending.push(Pending::at(node, trail, taken))?;
     let mut passed: u64 = 0;
     let mut answers: u64 = 0;
-    while let Some(next) = pending.pop() {
-        if !step(search, next, scratch, trail, taken, pending)? {
-            continue;
-        }
+    while let Some(open) = next_open(search, scratch, trail, taken, pending)? {
         passed += 1;
-        let own = search.tree.postings(next.node).len();
+        let own = search.tree.postings(open).len();
         answers = answers.saturating_add(own as u64);
     }
     Ok(Counted { passed, answers })

@@ -1,12 +1,13 @@
 // The nodes that a search is still to visit, and one step of it.
-ghost use Rattle.std.specs.Prelude.{◌≡◌, ◌+◌, ◌++◌, ◌≤◌, ◌<◌, IfOk, OnErr, OnOk, length, take, vec_capacity, vec_len, ℕ};
+ghost use Rattle.std.specs.Prelude.{◌≡◌, ◌+◌, ◌++◌, ◌≤◌, ◌<◌, IfOk, OnErr, OnOk, length, take, vec_capacity, vec_len, List, ⊤, ℕ};
 ghost use Rattle.si_defs.specs.Substitutions.{Grows};
 ghost use Rattle.si_tree.specs.Reading.{AtNode, IsNode, children_of};
 ghost use Rattle.si_unify.specs.Rooms.{AreNoLongerThan, IsNoLessRoom};
 ghost use Rattle.si_descend.specs.Attempts.{wanted_of, AreAttempts};
 ghost use Rattle.si_descend.specs.Heads.{IsWanted};
 ghost use Rattle.si_descend.specs.Lending.{IsEnoughForTree};
-ghost use Rattle.si_descend.specs.Pending.{like, pending_at, HasStepped, IsDue, Leaves};
+ghost use Rattle.si_descend.specs.Pending.{like, pending_at, AreWaiting, HasStepped, HasTurnedTo, IsDue, LacksTurn, Leaves};
+ghost use Rattle.si_unify.specs.Solving.{Pairs};
 ghost use Rattle.si_descend.specs.Searching.{IsAtNode, IsOpenAt, IsReady};
 
 use crate::attempts::{Attempts, attempts_at, child_at};
@@ -47,14 +48,52 @@ impl Pending {
     }
 }
 
-/// Visits a node that was pending, and tells whether it is open. Where it is, those of its children
-/// that can be open are pending afterwards, after all that were.
-///
-/// The trails are first brought back to what they were above the node, but where all nodes below it
-/// are known to be open: nothing is bound there, and they stay. Where memory runs out, some of the
-/// children may be pending.
+/// Visits pending nodes, the last first, up to one that is open, and answers that. It answers none
+/// where none is, and then no node is pending. Where memory runs out, some children may be.
 #[inline(always)]
-pub(crate) fn step<'a>(
+pub(crate) fn next_open<'a>(
+    search: &Search<'a>,
+    scratch: &mut Scratch,
+    trail: &mut Trail<&'a [Cell]>,
+    taken: &mut Taken,
+    pending: &mut Vec<Pending>,
+) -> Result<Option<NodeId>, AllocError>
+    requires ready { IsReady search.now }
+    requires waiting { (base : Pairs) × (first : List (ℕ × ⊤))
+        × AreWaiting search.now base first trail.old taken.old pending.old.items }
+    ensures turns { IfOk result (HasTurnedTo search.now trail.new taken.new
+        pending.old.items pending.new.items) }
+    ensures waiting { OnOk result ((base : Pairs) (first : List (ℕ × ⊤))
+        → AreWaiting search.now base first trail.old taken.old pending.old.items
+        → AreWaiting search.now base first trail.new taken.new pending.new.items) }
+    ensures grows { (base : Pairs) (first : List (ℕ × ⊤))
+        → AreWaiting search.now base first trail.old taken.old pending.old.items
+        → Grows base trail.new.pairs }
+    ensures slots { trail.new.slots ≡ trail.old.slots }
+    ensures taken_slots { taken.new.slots ≡ taken.old.slots }
+    ensures full { OnErr result (LacksTurn search.now trail.old.pairs scratch.old pending.old) }
+    ensures keeps { IsNoLessRoom scratch.old scratch.new }
+    ensures within { OnOk result ((n : ℕ) → IsEnoughForTree n search.now.tree.now search.now.slots
+        trail.old.pairs scratch.old → AreNoLongerThan n trail.new.pairs) }
+    ensures room { vec_capacity pending.old ≤ vec_capacity pending.new }
+{
+    while let Some(next) = pending.pop() {
+        let node = next.node;
+        if step(search, next, scratch, trail, taken, pending)? {
+            return Ok(Some(node));
+        }
+    }
+    Ok(None)
+}
+
+// Visits a node that was pending, and tells whether it is open. Where it is, those of its children
+// that can be open are pending afterwards, after all that were.
+//
+// The trails are first brought back to what they were above the node, but where all nodes below it
+// are known to be open: nothing is bound there, and they stay. Where memory runs out, some of the
+// children may be pending.
+#[inline(always)]
+fn step<'a>(
     search: &Search<'a>,
     next: Pending,
     scratch: &mut Scratch,

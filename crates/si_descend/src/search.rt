@@ -8,7 +8,7 @@ ghost use Rattle.si_unify.specs.Rooms.{AreNoLongerThan, IsNoLessRoom};
 ghost use Rattle.si_descend.specs.Pending.{LacksRoom};
 ghost use Rattle.si_descend.specs.Searching.{IsReady, IsAboveNode, HasEntered, HasFound, NotesTaken};
 
-use crate::pending::{Pending, step};
+use crate::pending::{Pending, next_open};
 use crate::taken::Taken;
 use crate::variants::is_renaming;
 use si_defs::Relation;
@@ -123,12 +123,9 @@ pub(crate) fn visit_all<'a>(
 {
     pending.push(Pending::at(node, trail, taken))?;
     let mut passed: u64 = 0;
-    while let Some(next) = pending.pop() {
-        if !step(search, next, scratch, trail, taken, pending)? {
-            continue;
-        }
+    while let Some(open) = next_open(search, scratch, trail, taken, pending)? {
         passed += 1;
-        search.tree.postings(next.node).append_to(out)?;
+        search.tree.postings(open).append_to(out)?;
     }
     Ok(passed)
 }

@@ -1,72 +1,54 @@
-use Rattle.std.proofs.Common.{◌≡◌, ◌+◌, [], ◌∷◌, ◌++◌, true, false, length, refl, ap, ◌∙◌, subst, arith}
-use Rattle.std.proofs.lemmas.List.{nil_from_length}
+use Rattle.std.proofs.Common.{◌≡◌, ◌+◌, [], ◌∷◌, ◌++◌, length, refl, ap, ◌∙◌, subst, arith}
 use Rattle.si_legal.specs.Counts.{node_count}
 use Rattle.si_tree.specs.Reading.{IsNode}
 use Rattle.si_descend.specs.declared.pending.Pending.{Pending}
-use Rattle.si_descend.specs.Pending.{pending_at, HasStepped}
+use Rattle.si_descend.specs.Pending.{pending_at, HasTurned, HasTurnedTo}
 use Rattle.si_descend.proofs.CountLaws.{more_counted, none_counted}
 use Rattle.si_descend.proofs.PendingLaws.{one_passed, waiting_starts}
-use Rattle.si_descend.proofs.Turns.{due_node, finding_starts, finding_over, finding_on, finding_few, finding_short, finding_small, finding_ends, waiting_due, waiting_over, waiting_more}
+use Rattle.si_descend.proofs.Turns.{finding_starts, finding_none, finding_turned, turned_node, finding_few, finding_short, finding_small, finding_ends}
 use Rattle.si_descend.proofs.counting.count_all.Goals as goal
 
-pub loop-next-init : goal.loop-next-init
-loop-next-init c =
+pub loop-open-init : goal.loop-open-init
+loop-open-init c =
     let entry : Pending = pending_at c.args.node c.args.trail.now c.args.taken.now in
-    let pushed : c.push.new.self.items ≡ entry ∷ [] = c.in_ok-push.ensures.items ∙ ap (λ l. l ++ c.at.result ∷ []) c.requires.empty ∙ ap (λ p. p ∷ []) c.at.ensures in
-    (([], finding_starts c.args.search.now c.requires.above.searching.ready c.args.node [] c.args.trail.now c.args.taken.now c.push.new.self.items c.requires.above.node pushed, none_counted), waiting_starts c.args.search.now c.args.node c.args.trail.now c.args.taken.now c.push.new.self.items pushed c.requires.above)
-
-pub step-requires-clause-due : goal.step-requires-clause-due
-step-requires-clause-due c = waiting_due c.args.search.now c.args.trail.now.pairs c.args.taken.now.pairs c.loop-next.trail c.loop-next.trail c.loop-next.taken c.loop-next.taken c.pop.new.self.items c.in-Some.next c.loop-next.pending.items c.loop-next.pending.items c.in-Some.ensures.items c.loop-next.invariant.1
-
-pub loop-next-preserved-then-not-branch : goal.loop-next-preserved-then-not-branch
-loop-next-preserved-then-not-branch c =
-    let stepped : HasStepped c.args.search.now c.in-Some.next c.step.new.trail c.step.new.taken c.pop.new.self.items c.step.new.pending.items false = subst (HasStepped c.args.search.now c.in-Some.next c.step.new.trail c.step.new.taken c.pop.new.self.items c.step.new.pending.items) c.if-not-branch.true c.in_ok-step.ensures.steps in (
-      (
-        c.loop-next.invariant.0.0,
-        finding_over c.args.search.now c.requires.above.searching.ready c.args.node [] c.pop.new.self.items c.in-Some.next c.loop-next.pending.items c.in-Some.ensures.items c.loop-next.invariant.0.0 c.loop-next.passed c.loop-next.invariant.0.1 c.step.new.trail c.step.new.taken c.step.new.pending.items (due_node c.args.search.now c.loop-next.trail c.loop-next.taken c.in-Some.next (waiting_due c.args.search.now c.args.trail.now.pairs c.args.taken.now.pairs c.loop-next.trail c.loop-next.trail c.loop-next.taken c.loop-next.taken c.pop.new.self.items c.in-Some.next c.loop-next.pending.items c.loop-next.pending.items c.in-Some.ensures.items c.loop-next.invariant.1)) stepped,
-        c.loop-next.invariant.0.2,
-      ),
-      waiting_over c.args.search.now c.args.trail.now.pairs c.args.taken.now.pairs c.loop-next.trail c.step.new.trail c.loop-next.taken c.step.new.taken c.pop.new.self.items c.in-Some.next c.step.new.pending.items c.loop-next.pending.items c.in-Some.ensures.items c.loop-next.invariant.1 c.in_ok-step.ensures.slots c.in_ok-step.ensures.taken_slots c.in_ok-step.ensures.grows c.in_ok-step.ensures.taken_grows stepped.1,
+    let pushed : c.push.new.self.items ≡ entry ∷ [] = c.in_ok-push.ensures.items ∙ ap (λ l. l ++ c.at.result ∷ []) c.requires.empty ∙ ap (λ p. p ∷ []) c.at.ensures in (
+      ([], finding_starts c.args.search.now c.requires.above.searching.ready c.args.node [] c.args.trail.now c.args.taken.now c.push.new.self.items c.requires.above.node pushed, none_counted),
+      waiting_starts c.args.search.now c.args.node c.args.trail.now c.args.taken.now c.push.new.self.items pushed c.requires.above,
     )
+
+pub next_open-requires-clause-waiting : goal.next_open-requires-clause-waiting
+next_open-requires-clause-waiting c = (c.args.trail.now.pairs, c.args.taken.now.pairs, c.loop-open.invariant.1)
 
 pub overflow_add-passed : goal.overflow_add-passed
 overflow_add-passed c =
-    let stepped : HasStepped c.args.search.now c.in-Some.next c.step.new.trail c.step.new.taken c.pop.new.self.items c.step.new.pending.items true = subst (HasStepped c.args.search.now c.in-Some.next c.step.new.trail c.step.new.taken c.pop.new.self.items c.step.new.pending.items) c.if-not-branch.false c.in_ok-step.ensures.steps in
-    let node : IsNode c.args.search.now.tree.now c.in-Some.next.node = due_node c.args.search.now c.loop-next.trail c.loop-next.taken c.in-Some.next (waiting_due c.args.search.now c.args.trail.now.pairs c.args.taken.now.pairs c.loop-next.trail c.loop-next.trail c.loop-next.taken c.loop-next.taken c.pop.new.self.items c.in-Some.next c.loop-next.pending.items c.loop-next.pending.items c.in-Some.ensures.items c.loop-next.invariant.1) in
-    omega (
-      arith,
-      finding_small c.args.search.now c.requires.above.searching.ready c.args.node [] c.step.new.pending.items _ (c.loop-next.passed + 1)
-          (finding_on c.args.search.now c.requires.above.searching.ready c.args.node [] c.pop.new.self.items c.in-Some.next c.loop-next.pending.items c.in-Some.ensures.items c.loop-next.invariant.0.0 c.loop-next.passed c.loop-next.invariant.0.1 node.0 node.1 c.step.new.trail c.step.new.taken c.step.new.pending.items _ _ stepped refl refl),
-    )
+    let turned : HasTurned c.args.search.now c.in-Some.open c.next_open.new.trail c.next_open.new.taken c.loop-open.pending.items c.next_open.new.pending.items = subst (HasTurnedTo c.args.search.now c.next_open.new.trail c.next_open.new.taken c.loop-open.pending.items c.next_open.new.pending.items) c.in-Some.is c.in_ok-open.ensures.turns in
+    omega (arith, finding_small c.args.search.now c.requires.above.searching.ready c.args.node [] c.next_open.new.pending.items _ (c.loop-open.passed + 1) (finding_turned c.args.search.now c.requires.above.searching.ready c.args.node [] c.loop-open.trail c.loop-open.taken c.loop-open.pending.items c.loop-open.invariant.1.due c.loop-open.invariant.0.0 c.loop-open.passed c.loop-open.invariant.0.1 c.in-Some.open c.next_open.new.trail c.next_open.new.taken c.next_open.new.pending.items turned _ _ refl refl))
 
 pub postings-requires : goal.postings-requires
-postings-requires c = due_node c.args.search.now c.loop-next.trail c.loop-next.taken c.in-Some.next (waiting_due c.args.search.now c.args.trail.now.pairs c.args.taken.now.pairs c.loop-next.trail c.loop-next.trail c.loop-next.taken c.loop-next.taken c.pop.new.self.items c.in-Some.next c.loop-next.pending.items c.loop-next.pending.items c.in-Some.ensures.items c.loop-next.invariant.1)
+postings-requires c =
+    let turned : HasTurned c.args.search.now c.in-Some.open c.next_open.new.trail c.next_open.new.taken c.loop-open.pending.items c.next_open.new.pending.items = subst (HasTurnedTo c.args.search.now c.next_open.new.trail c.next_open.new.taken c.loop-open.pending.items c.next_open.new.pending.items) c.in-Some.is c.in_ok-open.ensures.turns in
+    turned_node c.args.search.now c.requires.above.searching.ready c.args.node [] c.loop-open.trail c.loop-open.taken c.loop-open.pending.items c.loop-open.invariant.1.due c.loop-open.invariant.0.0 c.loop-open.passed c.loop-open.invariant.0.1 c.in-Some.open c.next_open.new.trail c.next_open.new.taken c.next_open.new.pending.items turned
 
-pub loop-next-smaller : goal.loop-next-smaller
-loop-next-smaller c =
-    let stepped : HasStepped c.args.search.now c.in-Some.next c.step.new.trail c.step.new.taken c.pop.new.self.items c.step.new.pending.items true = subst (HasStepped c.args.search.now c.in-Some.next c.step.new.trail c.step.new.taken c.pop.new.self.items c.step.new.pending.items) c.if-not-branch.false c.in_ok-step.ensures.steps in
-    let node : IsNode c.args.search.now.tree.now c.in-Some.next.node = due_node c.args.search.now c.loop-next.trail c.loop-next.taken c.in-Some.next (waiting_due c.args.search.now c.args.trail.now.pairs c.args.taken.now.pairs c.loop-next.trail c.loop-next.trail c.loop-next.taken c.loop-next.taken c.pop.new.self.items c.in-Some.next c.loop-next.pending.items c.loop-next.pending.items c.in-Some.ensures.items c.loop-next.invariant.1) in
-    let turn = finding_on c.args.search.now c.requires.above.searching.ready c.args.node [] c.pop.new.self.items c.in-Some.next c.loop-next.pending.items c.in-Some.ensures.items c.loop-next.invariant.0.0 c.loop-next.passed c.loop-next.invariant.0.1 node.0 node.1 c.step.new.trail c.step.new.taken c.step.new.pending.items _ _ stepped refl refl in
-    one_passed (node_count c.args.search.now.tree.now) c.loop-next.passed (length c.loop-next.pending.items) (length c.step.new.pending.items)
-    (finding_few c.args.search.now c.requires.above.searching.ready c.args.node [] c.step.new.pending.items _ (c.loop-next.passed + 1) turn)
-    (finding_short c.args.search.now c.requires.above.searching.ready c.args.node [] c.step.new.pending.items _ (c.loop-next.passed + 1) turn)
+pub loop-open-smaller : goal.loop-open-smaller
+loop-open-smaller c =
+    let turned : HasTurned c.args.search.now c.in-Some.open c.next_open.new.trail c.next_open.new.taken c.loop-open.pending.items c.next_open.new.pending.items = subst (HasTurnedTo c.args.search.now c.next_open.new.trail c.next_open.new.taken c.loop-open.pending.items c.next_open.new.pending.items) c.in-Some.is c.in_ok-open.ensures.turns in
+    let turn = finding_turned c.args.search.now c.requires.above.searching.ready c.args.node [] c.loop-open.trail c.loop-open.taken c.loop-open.pending.items c.loop-open.invariant.1.due c.loop-open.invariant.0.0 c.loop-open.passed c.loop-open.invariant.0.1 c.in-Some.open c.next_open.new.trail c.next_open.new.taken c.next_open.new.pending.items turned _ _ refl refl in
+    one_passed (node_count c.args.search.now.tree.now) c.loop-open.passed (length c.loop-open.pending.items) (length c.next_open.new.pending.items)
+    (finding_few c.args.search.now c.requires.above.searching.ready c.args.node [] c.next_open.new.pending.items _ (c.loop-open.passed + 1) turn) (finding_short c.args.search.now c.requires.above.searching.ready c.args.node [] c.next_open.new.pending.items _ (c.loop-open.passed + 1) turn)
 
-pub loop-next-preserved : goal.loop-next-preserved
-loop-next-preserved c =
-    let stepped : HasStepped c.args.search.now c.in-Some.next c.step.new.trail c.step.new.taken c.pop.new.self.items c.step.new.pending.items true = subst (HasStepped c.args.search.now c.in-Some.next c.step.new.trail c.step.new.taken c.pop.new.self.items c.step.new.pending.items) c.if-not-branch.false c.in_ok-step.ensures.steps in
-    let node : IsNode c.args.search.now.tree.now c.in-Some.next.node = due_node c.args.search.now c.loop-next.trail c.loop-next.taken c.in-Some.next (waiting_due c.args.search.now c.args.trail.now.pairs c.args.taken.now.pairs c.loop-next.trail c.loop-next.trail c.loop-next.taken c.loop-next.taken c.pop.new.self.items c.in-Some.next c.loop-next.pending.items c.loop-next.pending.items c.in-Some.ensures.items c.loop-next.invariant.1) in (
+pub loop-open-preserved : goal.loop-open-preserved
+loop-open-preserved c =
+    let turned : HasTurned c.args.search.now c.in-Some.open c.next_open.new.trail c.next_open.new.taken c.loop-open.pending.items c.next_open.new.pending.items = subst (HasTurnedTo c.args.search.now c.next_open.new.trail c.next_open.new.taken c.loop-open.pending.items c.next_open.new.pending.items) c.in-Some.is c.in_ok-open.ensures.turns in
+    let node : IsNode c.args.search.now.tree.now c.in-Some.open = turned_node c.args.search.now c.requires.above.searching.ready c.args.node [] c.loop-open.trail c.loop-open.taken c.loop-open.pending.items c.loop-open.invariant.1.due c.loop-open.invariant.0.0 c.loop-open.passed c.loop-open.invariant.0.1 c.in-Some.open c.next_open.new.trail c.next_open.new.taken c.next_open.new.pending.items turned in (
       (
-        c.loop-next.invariant.0.0 ++ c.postings.result,
-        finding_on c.args.search.now c.requires.above.searching.ready c.args.node [] c.pop.new.self.items c.in-Some.next c.loop-next.pending.items c.in-Some.ensures.items c.loop-next.invariant.0.0 c.loop-next.passed c.loop-next.invariant.0.1 node.0 node.1 c.step.new.trail c.step.new.taken c.step.new.pending.items c.postings.result (c.loop-next.invariant.0.0 ++ c.postings.result) stepped (c.postings.ensures node.0 node.1) refl,
-        more_counted c.loop-next.invariant.0.0 c.postings.result c.loop-next.answers c.saturating_add-answers.result c.len-own.result c.loop-next.invariant.0.2 c.len-own.ensures (omega (arith, c.len-own.type_inv)) (omega (arith, c.saturating_add-answers.ensures)),
+        c.loop-open.invariant.0.0 ++ c.postings.result,
+        finding_turned c.args.search.now c.requires.above.searching.ready c.args.node [] c.loop-open.trail c.loop-open.taken c.loop-open.pending.items c.loop-open.invariant.1.due c.loop-open.invariant.0.0 c.loop-open.passed c.loop-open.invariant.0.1 c.in-Some.open c.next_open.new.trail c.next_open.new.taken c.next_open.new.pending.items turned c.postings.result (c.loop-open.invariant.0.0 ++ c.postings.result) (c.postings.ensures node.0 node.1) refl,
+        more_counted c.loop-open.invariant.0.0 c.postings.result c.loop-open.answers c.saturating_add-answers.result c.len-own.result c.loop-open.invariant.0.2 c.len-own.ensures (omega (arith, c.len-own.type_inv)) (omega (arith, c.saturating_add-answers.ensures)),
       ),
-      waiting_more c.args.search.now c.args.trail.now.pairs c.args.taken.now.pairs c.loop-next.trail c.step.new.trail c.loop-next.taken c.step.new.taken c.pop.new.self.items c.in-Some.next c.step.new.pending.items c.loop-next.pending.items c.in-Some.ensures.items c.loop-next.invariant.1 c.in_ok-step.ensures.slots c.in_ok-step.ensures.taken_slots c.in_ok-step.ensures.grows c.in_ok-step.ensures.taken_grows stepped.1,
+      c.in_ok-open.ensures.waiting c.args.trail.now.pairs c.args.taken.now.pairs c.loop-open.invariant.1,
     )
 
 pub returns : goal.returns
-returns c = (
-  c.loop-next.invariant.0.0,
-  finding_ends c.args.search.now c.requires.above.searching.ready c.args.node [] c.loop-next.pending.items c.loop-next.invariant.0.0 c.loop-next.passed c.loop-next.invariant.0.1
-      (nil_from_length c.loop-next.pending.items (omega (arith, c.in_default.ensures.cases.0, c.loop-next.pending.ok))),
-  c.loop-next.invariant.0.2,
-)
+returns c =
+    let none = subst (HasTurnedTo c.args.search.now c.next_open.new.trail c.next_open.new.taken c.loop-open.pending.items c.next_open.new.pending.items) c.in_default.is c.in_ok-open.ensures.turns in
+    (c.loop-open.invariant.0.0, finding_ends c.args.search.now c.requires.above.searching.ready c.args.node [] [] c.loop-open.invariant.0.0 c.loop-open.passed (finding_none c.args.search.now c.requires.above.searching.ready c.args.node [] c.loop-open.trail c.loop-open.taken c.loop-open.pending.items c.loop-open.invariant.1.due c.loop-open.invariant.0.0 c.loop-open.passed c.loop-open.invariant.0.1 none.0) refl, c.loop-open.invariant.0.2)

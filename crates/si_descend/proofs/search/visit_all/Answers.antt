@@ -1,14 +1,14 @@
-use Rattle.std.proofs.Common.{◌≡◌, ◌+◌, [], ◌∷◌, ◌++◌, true, false, length, refl, ap, ◌∙◌, subst, arith}
-use Rattle.std.proofs.lemmas.List.{length-append, nil_from_length}
+use Rattle.std.proofs.Common.{◌≡◌, ◌+◌, [], ◌∷◌, ◌++◌, length, refl, ap, ◌∙◌, subst, arith}
+use Rattle.std.proofs.lemmas.List.{length-append}
 use Rattle.si_term.proofs.Results.{on_err}
 use Rattle.si_legal.specs.Counts.{node_count}
 use Rattle.si_unify.proofs.RoomLaws.{same_room, room_on}
 use Rattle.si_tree.specs.Reading.{IsNode}
 use Rattle.si_descend.specs.declared.pending.Pending.{Pending}
-use Rattle.si_descend.specs.Pending.{pending_at, HasStepped, LacksRoom}
+use Rattle.si_descend.specs.Pending.{pending_at, HasTurned, HasTurnedTo, LacksRoom}
 use Rattle.si_descend.proofs.EnoughLaws.{enough_still}
 use Rattle.si_descend.proofs.PendingLaws.{one_passed, waiting_starts}
-use Rattle.si_descend.proofs.Turns.{IsFinding, due_node, finding_starts, finding_over, finding_on, finding_few_children, finding_few, finding_short, finding_small, finding_ends, finding_fits, waiting_due, waiting_over, waiting_more, waiting_grows}
+use Rattle.si_descend.proofs.Turns.{IsFinding, finding_starts, finding_none, finding_turned, next_node, next_few_children, turned_node, finding_few, finding_short, finding_small, finding_ends, finding_fits}
 use Rattle.si_descend.proofs.search.visit_all.Goals as goal
 
 pub returns-in_err-push-clause-full : goal.returns-in_err-push-clause-full
@@ -19,8 +19,8 @@ returns-in_err-push-clause-full c =
     omega (arith, few, finding_short c.args.search.now c.requires.above.searching.ready c.args.node c.args.out.now.items (entry ∷ []) c.args.out.now.items 0 begun, c.in_err-push.ensures.full, ap length c.requires.empty, c.args.pending.now.ok) in
     on_err _ lack
 
-pub loop-next-init : goal.loop-next-init
-loop-next-init c =
+pub loop-open-init : goal.loop-open-init
+loop-open-init c =
     let entry : Pending = pending_at c.args.node c.args.trail.now c.args.taken.now in
     let pushed : c.push.new.self.items ≡ entry ∷ [] = c.in_ok-push.ensures.items ∙ ap (λ l. l ++ c.at.result ∷ []) c.requires.empty ∙ ap (λ p. p ∷ []) c.at.ensures in
     record {
@@ -34,102 +34,76 @@ loop-next-init c =
       no_less_place = omega arith;
     }
 
-pub step-requires-clause-due : goal.step-requires-clause-due
-step-requires-clause-due c = waiting_due c.args.search.now c.args.trail.now.pairs c.args.taken.now.pairs c.loop-next.trail c.loop-next.trail c.loop-next.taken c.loop-next.taken c.pop.new.self.items c.in-Some.next c.loop-next.pending.items c.loop-next.pending.items c.in-Some.ensures.items c.loop-next.invariant.still_waiting
+pub next_open-requires-clause-waiting : goal.next_open-requires-clause-waiting
+next_open-requires-clause-waiting c = (c.args.trail.now.pairs, c.args.taken.now.pairs, c.loop-open.invariant.still_waiting)
 
-pub returns-in_err-step-clause-grows : goal.returns-in_err-step-clause-grows
-returns-in_err-step-clause-grows c =
-    waiting_grows c.args.search.now c.args.trail.now.pairs c.args.taken.now.pairs c.loop-next.trail c.step.new.trail c.loop-next.taken c.step.new.taken c.pop.new.self.items c.in-Some.next c.step.new.pending.items c.loop-next.pending.items c.in-Some.ensures.items c.loop-next.invariant.still_waiting
-    c.in_err-step.ensures.slots c.in_err-step.ensures.taken_slots c.in_err-step.ensures.grows c.in_err-step.ensures.taken_grows
+pub returns-in_err-open-clause-grows : goal.returns-in_err-open-clause-grows
+returns-in_err-open-clause-grows c = c.in_err-open.ensures.grows c.args.trail.now.pairs c.args.taken.now.pairs c.loop-open.invariant.still_waiting
 
-pub returns-in_err-step-clause-full : goal.returns-in_err-step-clause-full
-returns-in_err-step-clause-full c =
-    let node : IsNode c.args.search.now.tree.now c.in-Some.next.node = due_node c.args.search.now c.loop-next.trail c.loop-next.taken c.in-Some.next (waiting_due c.args.search.now c.args.trail.now.pairs c.args.taken.now.pairs c.loop-next.trail c.loop-next.trail c.loop-next.taken c.loop-next.taken c.pop.new.self.items c.in-Some.next c.loop-next.pending.items c.loop-next.pending.items c.in-Some.ensures.items c.loop-next.invariant.still_waiting) in
+pub returns-in_err-open-clause-full : goal.returns-in_err-open-clause-full
+returns-in_err-open-clause-full c =
+    let l = c.in_err-open.ensures.full in
+    let node : IsNode c.args.search.now.tree.now l.next.node = next_node c.args.search.now c.requires.above.searching.ready c.args.node c.args.out.now.items c.loop-open.trail c.loop-open.taken c.loop-open.pending.items c.loop-open.invariant.still_waiting.due c.loop-open.out.items c.loop-open.passed c.loop-open.invariant.found_so_far l.front l.next l.closed l.is in
     let lack : LacksRoom c.args.search.now c.args.node c.args.trail.now.pairs c.args.scratch.now c.args.pending.now c.args.out.now = λ n enough few place.
-    c.in_err-step.ensures.full node.0 node.1 n (c.loop-next.invariant.enough_still n enough)
-    (omega (
-      arith,
-      few,
-      finding_few_children c.args.search.now c.requires.above.searching.ready c.args.node c.args.out.now.items c.pop.new.self.items c.in-Some.next c.loop-next.pending.items c.in-Some.ensures.items c.loop-next.out.items c.loop-next.passed c.loop-next.invariant.found_so_far node.0 node.1,
-      c.loop-next.invariant.no_less_list,
-      c.pop.ensures.capacity,
-      c.pop.new.self.ok,
-    )) in
+    l.lack node.0 node.1 n (c.loop-open.invariant.enough_still n enough)
+    (omega (arith, few, next_few_children c.args.search.now c.requires.above.searching.ready c.args.node c.args.out.now.items c.loop-open.trail c.loop-open.taken c.loop-open.pending.items c.loop-open.invariant.still_waiting.due c.loop-open.out.items c.loop-open.passed c.loop-open.invariant.found_so_far l.front l.next l.closed l.is node.0 node.1, c.loop-open.invariant.no_less_list)) in
     on_err _ lack
-
-pub loop-next-preserved-then-not-branch : goal.loop-next-preserved-then-not-branch
-loop-next-preserved-then-not-branch c =
-    let stepped : HasStepped c.args.search.now c.in-Some.next c.step.new.trail c.step.new.taken c.pop.new.self.items c.step.new.pending.items false = subst (HasStepped c.args.search.now c.in-Some.next c.step.new.trail c.step.new.taken c.pop.new.self.items c.step.new.pending.items) c.if-not-branch.true c.in_ok-step.ensures.steps in
-    record {
-      found_so_far = finding_over c.args.search.now c.requires.above.searching.ready c.args.node c.args.out.now.items c.pop.new.self.items c.in-Some.next c.loop-next.pending.items c.in-Some.ensures.items c.loop-next.out.items c.loop-next.passed c.loop-next.invariant.found_so_far c.step.new.trail c.step.new.taken c.step.new.pending.items (due_node c.args.search.now c.loop-next.trail c.loop-next.taken c.in-Some.next (waiting_due c.args.search.now c.args.trail.now.pairs c.args.taken.now.pairs c.loop-next.trail c.loop-next.trail c.loop-next.taken c.loop-next.taken c.pop.new.self.items c.in-Some.next c.loop-next.pending.items c.loop-next.pending.items c.in-Some.ensures.items c.loop-next.invariant.still_waiting)) stepped;
-      still_waiting = waiting_over c.args.search.now c.args.trail.now.pairs c.args.taken.now.pairs c.loop-next.trail c.step.new.trail c.loop-next.taken c.step.new.taken c.pop.new.self.items c.in-Some.next c.step.new.pending.items c.loop-next.pending.items c.in-Some.ensures.items c.loop-next.invariant.still_waiting c.in_ok-step.ensures.slots c.in_ok-step.ensures.taken_slots c.in_ok-step.ensures.grows c.in_ok-step.ensures.taken_grows stepped.1;
-      same_slots = c.in_ok-step.ensures.slots ∙ c.loop-next.invariant.same_slots;
-      same_table = c.in_ok-step.ensures.taken_slots ∙ c.loop-next.invariant.same_table;
-      enough_still = λ n enough. enough_still n c.args.search.now.tree.now c.args.search.now.slots c.loop-next.trail.pairs c.step.new.trail.pairs c.loop-next.scratch c.step.new.scratch (c.in_ok-step.ensures.within n (c.loop-next.invariant.enough_still n enough)) c.in_ok-step.ensures.keeps (c.loop-next.invariant.enough_still n enough);
-      no_less_room = room_on c.args.scratch.now c.loop-next.scratch c.step.new.scratch c.loop-next.invariant.no_less_room c.in_ok-step.ensures.keeps;
-      no_less_list = omega (arith, c.loop-next.invariant.no_less_list, c.pop.ensures.capacity, c.in_ok-step.ensures.room);
-      no_less_place = c.loop-next.invariant.no_less_place;
-    }
 
 pub overflow_add-passed : goal.overflow_add-passed
 overflow_add-passed c =
-    let stepped : HasStepped c.args.search.now c.in-Some.next c.step.new.trail c.step.new.taken c.pop.new.self.items c.step.new.pending.items true = subst (HasStepped c.args.search.now c.in-Some.next c.step.new.trail c.step.new.taken c.pop.new.self.items c.step.new.pending.items) c.if-not-branch.false c.in_ok-step.ensures.steps in
-    let node : IsNode c.args.search.now.tree.now c.in-Some.next.node = due_node c.args.search.now c.loop-next.trail c.loop-next.taken c.in-Some.next (waiting_due c.args.search.now c.args.trail.now.pairs c.args.taken.now.pairs c.loop-next.trail c.loop-next.trail c.loop-next.taken c.loop-next.taken c.pop.new.self.items c.in-Some.next c.loop-next.pending.items c.loop-next.pending.items c.in-Some.ensures.items c.loop-next.invariant.still_waiting) in
-    omega (
-      arith,
-      finding_small c.args.search.now c.requires.above.searching.ready c.args.node c.args.out.now.items c.step.new.pending.items _ (c.loop-next.passed + 1)
-          (finding_on c.args.search.now c.requires.above.searching.ready c.args.node c.args.out.now.items c.pop.new.self.items c.in-Some.next c.loop-next.pending.items c.in-Some.ensures.items c.loop-next.out.items c.loop-next.passed c.loop-next.invariant.found_so_far node.0 node.1 c.step.new.trail c.step.new.taken c.step.new.pending.items _ _ stepped refl refl),
-    )
+    let turned : HasTurned c.args.search.now c.in-Some.open c.next_open.new.trail c.next_open.new.taken c.loop-open.pending.items c.next_open.new.pending.items = subst (HasTurnedTo c.args.search.now c.next_open.new.trail c.next_open.new.taken c.loop-open.pending.items c.next_open.new.pending.items) c.in-Some.is c.in_ok-open.ensures.turns in
+    omega (arith, finding_small c.args.search.now c.requires.above.searching.ready c.args.node c.args.out.now.items c.next_open.new.pending.items _ (c.loop-open.passed + 1) (finding_turned c.args.search.now c.requires.above.searching.ready c.args.node c.args.out.now.items c.loop-open.trail c.loop-open.taken c.loop-open.pending.items c.loop-open.invariant.still_waiting.due c.loop-open.out.items c.loop-open.passed c.loop-open.invariant.found_so_far c.in-Some.open c.next_open.new.trail c.next_open.new.taken c.next_open.new.pending.items turned _ _ refl refl))
 
 pub postings-requires : goal.postings-requires
-postings-requires c = due_node c.args.search.now c.loop-next.trail c.loop-next.taken c.in-Some.next (waiting_due c.args.search.now c.args.trail.now.pairs c.args.taken.now.pairs c.loop-next.trail c.loop-next.trail c.loop-next.taken c.loop-next.taken c.pop.new.self.items c.in-Some.next c.loop-next.pending.items c.loop-next.pending.items c.in-Some.ensures.items c.loop-next.invariant.still_waiting)
+postings-requires c =
+    let turned : HasTurned c.args.search.now c.in-Some.open c.next_open.new.trail c.next_open.new.taken c.loop-open.pending.items c.next_open.new.pending.items = subst (HasTurnedTo c.args.search.now c.next_open.new.trail c.next_open.new.taken c.loop-open.pending.items c.next_open.new.pending.items) c.in-Some.is c.in_ok-open.ensures.turns in
+    turned_node c.args.search.now c.requires.above.searching.ready c.args.node c.args.out.now.items c.loop-open.trail c.loop-open.taken c.loop-open.pending.items c.loop-open.invariant.still_waiting.due c.loop-open.out.items c.loop-open.passed c.loop-open.invariant.found_so_far c.in-Some.open c.next_open.new.trail c.next_open.new.taken c.next_open.new.pending.items turned
 
-pub loop-next-smaller : goal.loop-next-smaller
-loop-next-smaller c =
-    let stepped : HasStepped c.args.search.now c.in-Some.next c.step.new.trail c.step.new.taken c.pop.new.self.items c.step.new.pending.items true = subst (HasStepped c.args.search.now c.in-Some.next c.step.new.trail c.step.new.taken c.pop.new.self.items c.step.new.pending.items) c.if-not-branch.false c.in_ok-step.ensures.steps in
-    let node : IsNode c.args.search.now.tree.now c.in-Some.next.node = due_node c.args.search.now c.loop-next.trail c.loop-next.taken c.in-Some.next (waiting_due c.args.search.now c.args.trail.now.pairs c.args.taken.now.pairs c.loop-next.trail c.loop-next.trail c.loop-next.taken c.loop-next.taken c.pop.new.self.items c.in-Some.next c.loop-next.pending.items c.loop-next.pending.items c.in-Some.ensures.items c.loop-next.invariant.still_waiting) in
-    let turn = finding_on c.args.search.now c.requires.above.searching.ready c.args.node c.args.out.now.items c.pop.new.self.items c.in-Some.next c.loop-next.pending.items c.in-Some.ensures.items c.loop-next.out.items c.loop-next.passed c.loop-next.invariant.found_so_far node.0 node.1 c.step.new.trail c.step.new.taken c.step.new.pending.items _ _ stepped refl refl in
-    one_passed (node_count c.args.search.now.tree.now) c.loop-next.passed (length c.loop-next.pending.items) (length c.step.new.pending.items)
-    (finding_few c.args.search.now c.requires.above.searching.ready c.args.node c.args.out.now.items c.step.new.pending.items _ (c.loop-next.passed + 1) turn)
-    (finding_short c.args.search.now c.requires.above.searching.ready c.args.node c.args.out.now.items c.step.new.pending.items _ (c.loop-next.passed + 1) turn)
+pub loop-open-smaller : goal.loop-open-smaller
+loop-open-smaller c =
+    let turned : HasTurned c.args.search.now c.in-Some.open c.next_open.new.trail c.next_open.new.taken c.loop-open.pending.items c.next_open.new.pending.items = subst (HasTurnedTo c.args.search.now c.next_open.new.trail c.next_open.new.taken c.loop-open.pending.items c.next_open.new.pending.items) c.in-Some.is c.in_ok-open.ensures.turns in
+    let turn = finding_turned c.args.search.now c.requires.above.searching.ready c.args.node c.args.out.now.items c.loop-open.trail c.loop-open.taken c.loop-open.pending.items c.loop-open.invariant.still_waiting.due c.loop-open.out.items c.loop-open.passed c.loop-open.invariant.found_so_far c.in-Some.open c.next_open.new.trail c.next_open.new.taken c.next_open.new.pending.items turned _ _ refl refl in
+    one_passed (node_count c.args.search.now.tree.now) c.loop-open.passed (length c.loop-open.pending.items) (length c.next_open.new.pending.items)
+    (finding_few c.args.search.now c.requires.above.searching.ready c.args.node c.args.out.now.items c.next_open.new.pending.items _ (c.loop-open.passed + 1) turn) (finding_short c.args.search.now c.requires.above.searching.ready c.args.node c.args.out.now.items c.next_open.new.pending.items _ (c.loop-open.passed + 1) turn)
 
-pub loop-next-preserved : goal.loop-next-preserved
-loop-next-preserved c =
-    let stepped : HasStepped c.args.search.now c.in-Some.next c.step.new.trail c.step.new.taken c.pop.new.self.items c.step.new.pending.items true = subst (HasStepped c.args.search.now c.in-Some.next c.step.new.trail c.step.new.taken c.pop.new.self.items c.step.new.pending.items) c.if-not-branch.false c.in_ok-step.ensures.steps in
-    let node : IsNode c.args.search.now.tree.now c.in-Some.next.node = due_node c.args.search.now c.loop-next.trail c.loop-next.taken c.in-Some.next (waiting_due c.args.search.now c.args.trail.now.pairs c.args.taken.now.pairs c.loop-next.trail c.loop-next.trail c.loop-next.taken c.loop-next.taken c.pop.new.self.items c.in-Some.next c.loop-next.pending.items c.loop-next.pending.items c.in-Some.ensures.items c.loop-next.invariant.still_waiting) in
+pub loop-open-preserved : goal.loop-open-preserved
+loop-open-preserved c =
+    let turned : HasTurned c.args.search.now c.in-Some.open c.next_open.new.trail c.next_open.new.taken c.loop-open.pending.items c.next_open.new.pending.items = subst (HasTurnedTo c.args.search.now c.next_open.new.trail c.next_open.new.taken c.loop-open.pending.items c.next_open.new.pending.items) c.in-Some.is c.in_ok-open.ensures.turns in
+    let node : IsNode c.args.search.now.tree.now c.in-Some.open = turned_node c.args.search.now c.requires.above.searching.ready c.args.node c.args.out.now.items c.loop-open.trail c.loop-open.taken c.loop-open.pending.items c.loop-open.invariant.still_waiting.due c.loop-open.out.items c.loop-open.passed c.loop-open.invariant.found_so_far c.in-Some.open c.next_open.new.trail c.next_open.new.taken c.next_open.new.pending.items turned in
     record {
-      found_so_far = finding_on c.args.search.now c.requires.above.searching.ready c.args.node c.args.out.now.items c.pop.new.self.items c.in-Some.next c.loop-next.pending.items c.in-Some.ensures.items c.loop-next.out.items c.loop-next.passed c.loop-next.invariant.found_so_far node.0 node.1 c.step.new.trail c.step.new.taken c.step.new.pending.items c.postings.result c.append_to.new.others.items stepped (c.postings.ensures node.0 node.1) c.in_ok-append_to.ensures.ok;
-      still_waiting = waiting_more c.args.search.now c.args.trail.now.pairs c.args.taken.now.pairs c.loop-next.trail c.step.new.trail c.loop-next.taken c.step.new.taken c.pop.new.self.items c.in-Some.next c.step.new.pending.items c.loop-next.pending.items c.in-Some.ensures.items c.loop-next.invariant.still_waiting c.in_ok-step.ensures.slots c.in_ok-step.ensures.taken_slots c.in_ok-step.ensures.grows c.in_ok-step.ensures.taken_grows stepped.1;
-      same_slots = c.in_ok-step.ensures.slots ∙ c.loop-next.invariant.same_slots;
-      same_table = c.in_ok-step.ensures.taken_slots ∙ c.loop-next.invariant.same_table;
-      enough_still = λ n enough. enough_still n c.args.search.now.tree.now c.args.search.now.slots c.loop-next.trail.pairs c.step.new.trail.pairs c.loop-next.scratch c.step.new.scratch (c.in_ok-step.ensures.within n (c.loop-next.invariant.enough_still n enough)) c.in_ok-step.ensures.keeps (c.loop-next.invariant.enough_still n enough);
-      no_less_room = room_on c.args.scratch.now c.loop-next.scratch c.step.new.scratch c.loop-next.invariant.no_less_room c.in_ok-step.ensures.keeps;
-      no_less_list = omega (arith, c.loop-next.invariant.no_less_list, c.pop.ensures.capacity, c.in_ok-step.ensures.room);
-      no_less_place = omega (arith, c.loop-next.invariant.no_less_place, c.append_to.ensures.keeps);
+      found_so_far = finding_turned c.args.search.now c.requires.above.searching.ready c.args.node c.args.out.now.items c.loop-open.trail c.loop-open.taken c.loop-open.pending.items c.loop-open.invariant.still_waiting.due c.loop-open.out.items c.loop-open.passed c.loop-open.invariant.found_so_far c.in-Some.open c.next_open.new.trail c.next_open.new.taken c.next_open.new.pending.items turned c.postings.result c.append_to.new.others.items (c.postings.ensures node.0 node.1) c.in_ok-append_to.ensures.ok;
+      still_waiting = c.in_ok-open.ensures.waiting c.args.trail.now.pairs c.args.taken.now.pairs c.loop-open.invariant.still_waiting;
+      same_slots = c.in_ok-open.ensures.slots ∙ c.loop-open.invariant.same_slots;
+      same_table = c.in_ok-open.ensures.taken_slots ∙ c.loop-open.invariant.same_table;
+      enough_still = λ n enough. enough_still n c.args.search.now.tree.now c.args.search.now.slots c.loop-open.trail.pairs c.next_open.new.trail.pairs c.loop-open.scratch c.next_open.new.scratch (c.in_ok-open.ensures.within n (c.loop-open.invariant.enough_still n enough)) c.in_ok-open.ensures.keeps (c.loop-open.invariant.enough_still n enough);
+      no_less_room = room_on c.args.scratch.now c.loop-open.scratch c.next_open.new.scratch c.loop-open.invariant.no_less_room c.in_ok-open.ensures.keeps;
+      no_less_list = omega (arith, c.loop-open.invariant.no_less_list, c.in_ok-open.ensures.room);
+      no_less_place = omega (arith, c.loop-open.invariant.no_less_place, c.append_to.ensures.keeps);
     }
 
 pub returns-in_err-append_to-clause-grows : goal.returns-in_err-append_to-clause-grows
-returns-in_err-append_to-clause-grows c =
-    waiting_grows c.args.search.now c.args.trail.now.pairs c.args.taken.now.pairs c.loop-next.trail c.step.new.trail c.loop-next.taken c.step.new.taken c.pop.new.self.items c.in-Some.next c.step.new.pending.items c.loop-next.pending.items c.in-Some.ensures.items c.loop-next.invariant.still_waiting
-    c.in_ok-step.ensures.slots c.in_ok-step.ensures.taken_slots c.in_ok-step.ensures.grows c.in_ok-step.ensures.taken_grows
+returns-in_err-append_to-clause-grows c = c.in_ok-open.ensures.grows c.args.trail.now.pairs c.args.taken.now.pairs c.loop-open.invariant.still_waiting
 
 pub returns-in_err-append_to-clause-full : goal.returns-in_err-append_to-clause-full
 returns-in_err-append_to-clause-full c =
-    let stepped : HasStepped c.args.search.now c.in-Some.next c.step.new.trail c.step.new.taken c.pop.new.self.items c.step.new.pending.items true = subst (HasStepped c.args.search.now c.in-Some.next c.step.new.trail c.step.new.taken c.pop.new.self.items c.step.new.pending.items) c.if-not-branch.false c.in_ok-step.ensures.steps in
-    let node : IsNode c.args.search.now.tree.now c.in-Some.next.node = due_node c.args.search.now c.loop-next.trail c.loop-next.taken c.in-Some.next (waiting_due c.args.search.now c.args.trail.now.pairs c.args.taken.now.pairs c.loop-next.trail c.loop-next.trail c.loop-next.taken c.loop-next.taken c.pop.new.self.items c.in-Some.next c.loop-next.pending.items c.loop-next.pending.items c.in-Some.ensures.items c.loop-next.invariant.still_waiting) in
+    let turned : HasTurned c.args.search.now c.in-Some.open c.next_open.new.trail c.next_open.new.taken c.loop-open.pending.items c.next_open.new.pending.items = subst (HasTurnedTo c.args.search.now c.next_open.new.trail c.next_open.new.taken c.loop-open.pending.items c.next_open.new.pending.items) c.in-Some.is c.in_ok-open.ensures.turns in
+    let node : IsNode c.args.search.now.tree.now c.in-Some.open = turned_node c.args.search.now c.requires.above.searching.ready c.args.node c.args.out.now.items c.loop-open.trail c.loop-open.taken c.loop-open.pending.items c.loop-open.invariant.still_waiting.due c.loop-open.out.items c.loop-open.passed c.loop-open.invariant.found_so_far c.in-Some.open c.next_open.new.trail c.next_open.new.taken c.next_open.new.pending.items turned in
     let lack : LacksRoom c.args.search.now c.args.node c.args.trail.now.pairs c.args.scratch.now c.args.pending.now c.args.out.now = λ n enough few place.
     omega (
       arith,
-      finding_fits c.args.search.now c.requires.above.searching.ready c.args.node c.args.out.now.items c.step.new.pending.items (c.loop-next.out.items ++ c.postings.result) (c.loop-next.passed + 1) c.args.out.now refl
-          (finding_on c.args.search.now c.requires.above.searching.ready c.args.node c.args.out.now.items c.pop.new.self.items c.in-Some.next c.loop-next.pending.items c.in-Some.ensures.items c.loop-next.out.items c.loop-next.passed c.loop-next.invariant.found_so_far node.0 node.1 c.step.new.trail c.step.new.taken c.step.new.pending.items c.postings.result (c.loop-next.out.items ++ c.postings.result) stepped (c.postings.ensures node.0 node.1) refl) place,
-      length-append c.loop-next.out.items c.postings.result,
+      finding_fits c.args.search.now c.requires.above.searching.ready c.args.node c.args.out.now.items c.next_open.new.pending.items (c.loop-open.out.items ++ c.postings.result) (c.loop-open.passed + 1) c.args.out.now refl
+          (finding_turned c.args.search.now c.requires.above.searching.ready c.args.node c.args.out.now.items c.loop-open.trail c.loop-open.taken c.loop-open.pending.items c.loop-open.invariant.still_waiting.due c.loop-open.out.items c.loop-open.passed c.loop-open.invariant.found_so_far c.in-Some.open c.next_open.new.trail c.next_open.new.taken c.next_open.new.pending.items turned c.postings.result (c.loop-open.out.items ++ c.postings.result) (c.postings.ensures node.0 node.1) refl) place,
+      length-append c.loop-open.out.items c.postings.result,
       c.in_err-append_to.ensures.full,
-      c.loop-next.invariant.no_less_place,
-      c.loop-next.out.ok,
+      c.loop-open.invariant.no_less_place,
+      c.loop-open.out.ok,
     ) in
     on_err _ lack
 
+pub returns-clause-grows : goal.returns-clause-grows
+returns-clause-grows c = c.in_ok-open.ensures.grows c.args.trail.now.pairs c.args.taken.now.pairs c.loop-open.invariant.still_waiting
+
 pub returns-clause-found : goal.returns-clause-found
 returns-clause-found c =
-    finding_ends c.args.search.now c.requires.above.searching.ready c.args.node c.args.out.now.items c.loop-next.pending.items c.loop-next.out.items c.loop-next.passed c.loop-next.invariant.found_so_far
-    (nil_from_length c.loop-next.pending.items (omega (arith, c.in_default.ensures.cases.0, c.loop-next.pending.ok)))
+    let none = subst (HasTurnedTo c.args.search.now c.next_open.new.trail c.next_open.new.taken c.loop-open.pending.items c.next_open.new.pending.items) c.in_default.is c.in_ok-open.ensures.turns in
+    finding_ends c.args.search.now c.requires.above.searching.ready c.args.node c.args.out.now.items [] c.loop-open.out.items c.loop-open.passed (finding_none c.args.search.now c.requires.above.searching.ready c.args.node c.args.out.now.items c.loop-open.trail c.loop-open.taken c.loop-open.pending.items c.loop-open.invariant.still_waiting.due c.loop-open.out.items c.loop-open.passed c.loop-open.invariant.found_so_far none.0) refl

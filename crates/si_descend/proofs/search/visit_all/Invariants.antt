@@ -2,7 +2,8 @@ use Rattle.std.proofs.Common.{◌≡◌, ◌≤◌, ℕ, length, vec_capacity}
 use Rattle.si_legal.specs.Counts.{node_count}
 use Rattle.si_unify.specs.Rooms.{IsNoLessRoom}
 use Rattle.si_descend.specs.Lending.{IsEnoughForTree}
-use Rattle.si_descend.proofs.PendingLaws.{AreWaiting, left_to_do}
+use Rattle.si_descend.specs.Pending.{AreWaiting}
+use Rattle.si_descend.proofs.PendingLaws.{left_to_do}
 use Rattle.si_descend.proofs.Turns.{IsFinding}
 use Rattle.si_descend.proofs.search.visit_all.Given as goal
 
@@ -16,8 +17,8 @@ pub record Invariant (finding waiting slots table enough kept list wider : Type 
   pub no_less_list : list
   pub no_less_place : wider
 
-abbrev pub invariant-loop-next : goal.invariant-loop-next
-invariant-loop-next l =
+abbrev pub invariant-loop-open : goal.invariant-loop-open
+invariant-loop-open l =
     Invariant
     (IsFinding l.search l.fn.node l.pending.items l.fn.out.items l.out.items l.passed)
     (AreWaiting l.search l.fn.trail.pairs l.fn.taken.pairs l.trail l.taken l.pending.items)
@@ -28,5 +29,5 @@ invariant-loop-next l =
     (vec_capacity l.fn.pending ≤ vec_capacity l.pending)
     (vec_capacity l.fn.out ≤ vec_capacity l.out)
 
-abbrev pub decreases-loop-next : goal.decreases-loop-next
-decreases-loop-next l = left_to_do (node_count l.search.tree.now) l.passed (length l.pending.items)
+abbrev pub decreases-loop-open : goal.decreases-loop-open
+decreases-loop-open l = left_to_do (node_count l.search.tree.now) l.passed (length l.pending.items)

@@ -1,5 +1,5 @@
 -- What stands at spots, and one step down a chain of bound variables.
-use Rattle.std.proofs.Common.{◌≡◌, ℕ, ◌+◌, ◌<◌, inl, inr, true, false, cond, List, [], ◌∷◌, ◌++◌, length, get_or, refl, sym, ◌∙◌, ap, subst, arith, suc, zero, add-zero, append-nil, Option, None, Some}
+use Rattle.std.proofs.Common.{◌≡◌, ◌≢◌, ℕ, ◌+◌, ◌<◌, inl, inr, true, false, cond, List, [], ◌∷◌, ◌++◌, length, get_or, refl, sym, ◌∙◌, ap, subst, arith, suc, zero, add-zero, append-nil, Option, None, Some}
 use Rattle.std.proofs.lemmas.List.{get_or-drop, length-drop}
 use Rattle.std.proofs.lemmas.Bool.Decides.{eqb_tells, nat_tests}
 use Rattle.std.specs.Prelude.{◌==◌}
@@ -13,8 +13,9 @@ use Rattle.si_flat.specs.Cells.{Variable, query, entry, ind, Term, variable_cell
 use Rattle.si_trail.specs.Trails.{value_at}
 use Rattle.si_unify.specs.declared.slots.Slots.{Slots}
 use Rattle.si_unify.specs.declared.spots.Question.{Question}
+use Rattle.si_unify.specs.declared.spots.Spot.{Spot}
 use Rattle.si_unify.specs.Solving.{Pairs, slot_count, slot_of, variable_of, IsInRange, CellIsInRange, AreInRange, IsBinding}
-use Rattle.si_unify.specs.Spots.{cells_now, text, IsAt, cell_slot, IsLegal}
+use Rattle.si_unify.specs.Spots.{cells_now, text, IsAt, IsSpot, cell_slot, IsLegal}
 use Rattle.si_unify.proofs.Reading.{same_term}
 
 -- ---- lists of bindings
@@ -84,6 +85,15 @@ other m n h = grind (arith, nat_tests)
 
 pub text-bound : (q : Question) (pairs : Pairs) (slot : ℕ) (v : Bor (List Cell)) → slot < slot_count q.slots → value_at pairs slot ≡ Some v → text q pairs slot ≡ v.now
 text-bound q pairs slot v less e = rw (other slot (slot_count q.slots) less, other slot (slot_count q.slots + 1) (omega arith), e) refl
+
+-- where a spot is, there are cells
+pub base_bound : (q : Question) (pairs : Pairs) (spot : Spot) → IsSpot q pairs spot → spot.base ≢ slot_count q.slots → spot.base ≢ slot_count q.slots + 1 → value_at pairs spot.base ≢ None
+base_bound q pairs spot h left right none =
+    let no_cells : text q pairs spot.base ≡ [] = rw (apart spot.base (slot_count q.slots) left, apart spot.base (slot_count q.slots + 1) right, none) refl in
+    omega (arith, inside (text q pairs spot.base) spot.at h.0 h.1, ap length no_cells)
+  where
+    apart : (m n : ℕ) → m ≢ n → (m == n) ≡ false
+    apart m n differ = elim (eqb_tells m n) [ inl h ↦ absurd (differ h.1) | inr h ↦ h.0 ]
 
 pub text_in_range : (q : Question) (pairs : Pairs) (base : ℕ) → IsLegal q pairs → AreInRange q.slots (text q pairs base)
 text_in_range q pairs base legal =

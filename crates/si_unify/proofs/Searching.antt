@@ -257,6 +257,21 @@ none_bound slots pairs [] h = refl
 none_bound slots pairs (c ∷ cells) h =
     ap (λ o. with_slot o (bound_slots slots pairs cells)) (not_bound pairs (cell_slot slots c) h.0) ∙ none_bound slots pairs cells h.1
 
+-- and the way back
+pub only_unbound : (slots : Slots) (pairs : Pairs) (cells : List Cell) → bound_slots slots pairs cells ≡ [] → AllByRecursion (CellIsUnbound slots pairs) cells
+only_unbound slots pairs [] none = tt
+only_unbound slots pairs (c ∷ cells) none =
+    let first = unbound (cell_slot slots c) (bound_slots slots pairs cells) none in
+    (first.0, only_unbound slots pairs cells first.1)
+  where
+    no_value : (o : Option (Bor (List Cell))) (slot : ℕ) (rest : List ℕ) → with_slot (if_value o slot) rest ≡ [] → (o ≡ None) × (rest ≡ [])
+    no_value None slot rest e = (refl, e)
+    no_value (Some v) slot rest e = cc
+
+    unbound : (o : Option ℕ) (rest : List ℕ) → with_slot (if_bound pairs o) rest ≡ [] → IsUnbound pairs o × (rest ≡ [])
+    unbound None rest e = (tt, e)
+    unbound (Some slot) rest e = no_value (value_at pairs slot) slot rest e
+
 -- ---- opening a slot
 all_pile : (P : ℕ → Type 0) (xs before : List ℕ) → AllByRecursion P xs → AllByRecursion P before → AllByRecursion P (pile xs before)
 all_pile P [] before h k = k

@@ -1,8 +1,8 @@
 // The search for a circle through bound variables.
-ghost use Rattle.std.specs.Prelude.{◌≡◌, ℕ, ◌+◌, ◌*◌, ◌<◌, ◌≤◌, true, length, take, reverse, ◌++◌, ◌∷◌, [], IfOk, OnOk, OnErr, vec_capacity};
+ghost use Rattle.std.specs.Prelude.{◌≡◌, ℕ, ◌+◌, ◌*◌, ◌<◌, ◌≤◌, ◌↔◌, IsTrue, length, take, reverse, ◌++◌, ◌∷◌, [], IfOk, OnOk, OnErr, vec_capacity};
 ghost use Rattle.std.specs.List.{AllByRecursion};
 ghost use Rattle.si_trail.specs.Trails.{HasDistinctSlots};
-ghost use Rattle.si_unify.specs.Circles.{if_bound, slots_below, visits_of, AreEntered, AreEntries, AreResolved, IsSearching, HasSearched, HasDone, VisitsLackRoom, AreNoMore, SaysTriangular};
+ghost use Rattle.si_unify.specs.Circles.{if_bound, visits_of, AreEntered, AreEntries, IsResolved, AreResolved, IsSearching, HasSearched, HasDone, VisitsLackRoom, AreNoMore, SaysTriangular};
 ghost use Rattle.si_unify.specs.Rooms.{AreNoLongerThan};
 ghost use Rattle.si_unify.specs.Solving.{slot_count, IsAcyclic, IsBinding};
 ghost use Rattle.si_unify.specs.States.{AreNew};
@@ -159,7 +159,7 @@ fn enter_bound<'a>(
 
 // Whether no variable in the value of a slot is bound.
 fn is_resolved<'a>(trail: &Trail<&'a [Cell]>, slots: &Slots, slot: usize) -> bool
-    ensures { result ≡ true → slots_below slots.now trail.now.pairs slot ≡ [] }
+    ensures { IsTrue result ↔ IsResolved slots.now trail.now.pairs slot }
 {
     match trail.get(slot) {
         Some(value) => are_unbound(trail, slots, value),
@@ -169,7 +169,7 @@ fn is_resolved<'a>(trail: &Trail<&'a [Cell]>, slots: &Slots, slot: usize) -> boo
 
 // Whether no variable in the values of the bindings from the mark on is bound.
 fn are_resolved<'a>(trail: &Trail<&'a [Cell]>, slots: &Slots, mark: usize) -> bool
-    ensures { result ≡ true → AreResolved slots.now trail.now.pairs mark
+    ensures { IsTrue result ↔ AreResolved slots.now trail.now.pairs mark
         (length trail.now.pairs) }
 {
     for n in mark..trail.mark() {

@@ -23,20 +23,21 @@ pub(crate) struct Unifier<'s, 'a> {
 }
 
 impl<'s, 'a> Unifier<'s, 'a> {
-    // The cells of a base: the first term, the second, or the value of a slot.
-    fn text(&self, base: usize) -> &'a [Cell]
-        ensures { result.now ≡ text self.now.question self.now.trail.now.pairs base }
+    // The cells among which a spot is: the first term's, the second's, or those of a slot's value.
+    fn text(&self, spot: Spot) -> &'a [Cell]
+        requires { HasSpot self.now spot }
+        ensures { result.now ≡ text self.now.question self.now.trail.now.pairs spot.base }
     {
         let count = self.question.slots.count();
-        if base == count {
+        if spot.base == count {
             return self.question.left;
         }
-        if base == count + 1 {
+        if spot.base == count + 1 {
             return self.question.right;
         }
-        match self.trail.get(base) {
+        match self.trail.get(spot.base) {
             Some(value) => value,
-            None => &[],
+            None => unreachable!(),
         }
     }
 
@@ -47,7 +48,7 @@ impl<'s, 'a> Unifier<'s, 'a> {
         ensures subterm { HasSubterm self.now (at_spot spot result) }
         ensures small { spot.at + length result.now < 2 ^ 64 }
     {
-        sub(self.text(spot.base), spot.at)
+        sub(self.text(spot), spot.at)
     }
 
     // Goes down a chain of variables that are bound to variables.

@@ -14,7 +14,7 @@ returns-clause-triangular c =
     IfOk-weaker c.search.result _ _ (λ b h. search_tells _ _ _ _ _ _ b c.in_ok-enter_bound.ensures.entered c.requires.before h) c.search.ensures.searched
 
 pub returns-then-are_resolved-clause-triangular : goal.returns-then-are_resolved-clause-triangular
-returns-then-are_resolved-clause-triangular c = resolved_tells _ _ c.args.mark (c.are_resolved.ensures c.if-are_resolved.true) c.requires.before
+returns-then-are_resolved-clause-triangular c = resolved_tells _ _ c.args.mark (c.are_resolved.ensures.0 c.if-are_resolved.true) c.requires.before
 
 pub search-requires : goal.search-requires
 search-requires c =

@@ -1,8 +1,9 @@
 -- Targets by their heads.
-use Rattle.std.proofs.Common.{◌≡◌, ℕ, zero, suc, ◌+◌, ◌-◌, ◌<◌, ◌==◌, Bool, true, false, cond, ◌&&◌, List, [], ◌∷◌, ◌++◌, length, get_or, drop, reverse, refl, ap, sym, ◌∙◌, arith, drop-cons, Some}
+use Rattle.std.proofs.Common.{◌≡◌, ℕ, zero, suc, ◌+◌, ◌-◌, ◌<◌, ◌≤◌, ◌==◌, Bool, true, false, cond, ◌&&◌, List, [], ◌∷◌, ◌++◌, length, get_or, drop, reverse, refl, ap, sym, ◌∙◌, arith, drop-cons, Some}
 use Rattle.std.proofs.Math.ListN.{drop_of_length-le}
 use Rattle.std.proofs.lemmas.List.{reverse-append}
 use Rattle.std.proofs.lemmas.Bool.{eqb-true, eq-eqb}
+use Rattle.std.proofs.lemmas.Option.{slice_get_within}
 use Rattle.std.specs.Map.{lookup}
 use Rattle.std.specs.Option.{unwrap_or}
 use Rattle.std.specs.Prelude.{slice_get, Option}
@@ -10,7 +11,7 @@ use Rattle.std.specs.Borrow.{Bor}
 use Rattle.si_defs.proofs.BoolLaws.{agreed}
 use Rattle.si_flat.specs.declared.Cell.{Cell}
 use Rattle.si_subsume.specs.declared.heads.Head.{Head}
-use Rattle.si_subsume.specs.Heads.{equal_heads, slice_head, first_in, nexts, IsFirstBy}
+use Rattle.si_subsume.specs.Heads.{equal_heads, slice_head, first_in, nexts, IsFirstBy, HasTarget}
 use Rattle.si_subsume.specs.Search.{Slices}
 
 -- ---- the index is built from the last target on
@@ -104,6 +105,26 @@ hit end k (c ∷ bs) h less = by (equal_heads h (slice_head c)) refl less (hit e
     by false is less rest =
         let r = rest less in
         record { place = suc r.place; number = omega (arith, r.number); slice = r.slice; slice_is = r.slice_is; has = r.has }
+
+-- it is no later than the end
+pub first_within : (end k : ℕ) (bs : Slices) (h : Head) → k + length bs ≡ end → first_in end k bs h ≤ end
+first_within end k [] h e = omega arith
+first_within end k (b ∷ bs) h e = by (equal_heads h (slice_head b)) (first_within end (suc k) bs h (omega (arith, e)))
+  where
+    by : (t : Bool) → first_in end (suc k) bs h ≤ end → cond t k (first_in end (suc k) bs h) ≤ end
+    by true le = omega (arith, e)
+    by false le = le
+
+-- there is one with the head where the first isn't the end
+pub target_there : (targets : Slices) (h : Head) → (first_in (length targets) 0 targets h ≡ length targets → ⊥) → HasTarget targets h
+target_there targets h found =
+    let there = hit (length targets) 0 targets h (omega (arith, first_within (length targets) 0 targets h (omega arith), found)) in
+    (there.place, there.slice, there.slice_is, there.has)
+
+pub no_target : (targets : Slices) (h : Head) → first_in (length targets) 0 targets h ≡ length targets → HasTarget targets h → ⊥
+no_target targets h none (n, b, got, has) =
+    let differs : equal_heads h (slice_head b) ≡ false = skipped (length targets) 0 targets h n b got (omega (arith, none, slice_get_within targets n b got)) in
+    let bad : true ≡ false = sym has ∙ differs in cc
 
 -- the next one after a slice
 pub next_at : (end k : ℕ) (bs : Slices) (i : ℕ) (b : Bor (List Cell)) → slice_get bs i ≡ Some b → get_or (nexts end k bs) i 0 ≡ first_in end (suc (k + i)) (drop (suc i) bs) (slice_head b)

@@ -2,12 +2,13 @@
 use Rattle.std.proofs.Common.{◌≡◌, inl, inr, ℕ, zero, suc, ◌+◌, ◌-◌, ◌<◌, ◌≤◌, Bool, true, false, cond, List, [], ◌∷◌, length, get_or, drop, refl, ap, sym, ◌∙◌, subst, arith, None, Some, length-drop}
 use Rattle.std.proofs.lemmas.Bool.{eq-eqb}
 use Rattle.std.specs.Prelude.{◌↔◌, ◌==◌, ◌&&◌, slice_get, Result, Ok, Err, IfOk}
+use Rattle.std.specs.List.{AllByRecursion}
 use Rattle.std.specs.Borrow.{Bor}
 use Rattle.std.proofs.lemmas.Option.{slice_get_within, slice_get-get_or}
-use Rattle.si_defs.specs.Substitutions.{image, Grows}
+use Rattle.si_defs.specs.Substitutions.{Substitution, image, Grows}
 use Rattle.si_defs.proofs.ListLaws.{all_got}
 use Rattle.si_state.specs.Subsumption.{AreImages}
-use Rattle.si_flat.specs.Cells.{same_variable}
+use Rattle.si_flat.specs.Cells.{Symbol, Variable, same_variable}
 use Rattle.si_flat.specs.declared.Cell.{Cell}
 use Rattle.si_flat.specs.declared.Cell.TheVariants as cell
 use Rattle.si_trail.specs.Trails.{Trail}
@@ -15,8 +16,8 @@ use Rattle.si_unify.specs.declared.slots.Slots.{Slots}
 use Rattle.si_unify.specs.Solving.{Pairs, Equalizes, IsSolution, IsCommon, HasSolved, HaveCommon}
 use Rattle.si_subsume.specs.declared.heads.Head.{Head}
 use Rattle.si_subsume.specs.Search.{Slices, CanEnd, IsSymbolCell, IsFlatLiteral, AreFlatLiterals, HaveOtherHeads, IsFirstTarget, FindsTarget}
-use Rattle.si_subsume.specs.Heads.{head_of, equal_heads, first_cell, slice_head, first_in, nexts, IsFirstToTry, TakesFrom}
-use Rattle.si_subsume.proofs.Unequal.{never_equal, term_read}
+use Rattle.si_subsume.specs.Heads.{head_of, equal_heads, first_cell, slice_head, first_in, nexts, IsFirstToTry, HasTarget, TakesFrom}
+use Rattle.si_subsume.proofs.Unequal.{never_equal}
 use Rattle.si_subsume.proofs.HeadLaws.{skipped, hit, next_at, got_behind, heads_same}
 use Rattle.si_subsume.proofs.Choices.{compare}
 
@@ -187,23 +188,35 @@ takes_of slots targets old new literal from number here (Ok false) solved grows 
 )
 takes_of slots targets old new literal from number here (Err e) solved grows stays le got = solved
 
--- ---- a literal without a target
-taken_at : {L K : Type 0} (TakesTo : L → K → Type 0) (ks : List K) (ls : List L) (ns : List ℕ) (i : ℕ) (d : L) → AreImages TakesTo ks ls ns → i < length ls → (n : ℕ) × (k : K) × (slice_get ks n ≡ Some k) × TakesTo (get_or ls i d) k
-taken_at TakesTo ks [] ns i d h less = absurd (omega (arith, less))
-taken_at TakesTo ks (l ∷ ls) [] i d h less = absurd h
-taken_at TakesTo ks (l ∷ ls) (zero ∷ ns) i d h less = absurd (let e : None ≡ Some h.0.0 = h.0.1 in cc)
-taken_at TakesTo ks (l ∷ ls) (suc n ∷ ns) zero d h less = (n, h.0.0, h.0.1, h.0.2)
-taken_at TakesTo ks (l ∷ ls) (suc n ∷ ns) (suc i) d h less = taken_at TakesTo ks ls ns i d h.1 (omega (arith, less))
+-- ---- a map takes each literal to a target with its head
+module _ (slots : Slots) (targets : Slices) (target_terms : AreFlatLiterals slots targets) where
+  target_of : (s : Substitution Symbol Variable) (literal : Bor (List Cell)) (n : ℕ) (target : Bor (List Cell))
+      → IsSolution slots [] s
+      → IsFlatLiteral slots literal.now
+      → slice_get targets n ≡ Some target
+      → Equalizes (image same_variable s) literal.now target.now
+      → HasTarget targets (slice_head literal)
+  target_of s literal n target solution term got equal = by (equal_heads (slice_head literal) (slice_head target)) refl
+    where
+      by : (b : Bool) → equal_heads (slice_head literal) (slice_head target) ≡ b → HasTarget targets (slice_head literal)
+      by true has = (n, target, got, has)
+      by false differs = absurd (never_there slots targets [] literal.now term target_terms n target got differs (s, (solution, equal)))
 
-pub without_target : (slots : Slots) (literals targets : Slices) (i : ℕ) (d : Bor (List Cell))
-    → AreFlatLiterals slots literals
-    → AreFlatLiterals slots targets
-    → i < length literals
-    → first_in (length targets) 0 targets (slice_head (get_or literals i d)) ≡ length targets
-    → (ns : List ℕ) → CanEnd slots targets [] literals ns → ⊥
-without_target slots literals targets i d terms target_terms less none ns can =
-    let t = taken_at (λ (l k : Bor (List Cell)). Equalizes (image same_variable can.0) l.now k.now) targets literals ns i d can.2 less in
-    let term = term_read slots literals i d terms less in
-    never_there slots targets [] (get_or literals i d).now term target_terms t.0 t.1 t.2
-    (skipped (length targets) 0 targets (slice_head (get_or literals i d)) t.0 t.1 t.2 (omega (arith, none, slice_get_within targets t.0 t.1 t.2)))
-    (can.0, (can.1, t.3))
+  each_taken : (s : Substitution Symbol Variable) (literals : Slices) (ns : List ℕ)
+      → IsSolution slots [] s
+      → AreFlatLiterals slots literals
+      → AreImages (λ (l k : Bor (List Cell)). Equalizes (image same_variable s) l.now k.now) targets literals ns
+      → AllByRecursion (λ literal. HasTarget targets (slice_head literal)) literals
+  each_taken s [] ns solution terms images = tt
+  each_taken s (l ∷ ls) [] solution terms images = absurd images
+  each_taken s (l ∷ ls) (zero ∷ ns) solution terms images = absurd (let e : None ≡ Some images.0.0 = images.0.1 in cc)
+  each_taken s (l ∷ ls) (suc n ∷ ns) solution terms images = (
+    target_of s l n images.0.0 solution terms.0 images.0.1 images.0.2,
+    each_taken s ls ns solution terms.1 images.1,
+  )
+
+  pub map_has_targets : (literals : Slices) (ns : List ℕ)
+      → AreFlatLiterals slots literals
+      → CanEnd slots targets [] literals ns
+      → AllByRecursion (λ literal. HasTarget targets (slice_head literal)) literals
+  map_has_targets literals ns terms can = each_taken can.0 literals ns can.1 terms can.2

@@ -51,6 +51,12 @@ pub record IsFirstToTry (targets : Slices) (h : Head) (from number : ℕ) : Type
   pub has : (b : Bor (List Cell)) → slice_get targets number ≡ Some b
       → equal_heads h (slice_head b) ≡ true
 
+-- some target has the head
+abbrev pub HasTarget : Slices → Head → Type 0
+HasTarget targets h =
+    (n : ℕ) × (b : Bor (List Cell)) × (slice_get targets n ≡ Some b)
+    × (equal_heads h (slice_head b) ≡ true)
+
 -- a target is tried where its number is no smaller than this one
 abbrev pub TakesFrom : Slots → Slices → Pairs → Pairs → List Cell → ℕ → ℕ → Bool → Type 0
 TakesFrom slots targets old new literal from number true =

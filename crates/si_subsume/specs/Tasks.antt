@@ -1,12 +1,13 @@
 -- Tasks: what is searched through, and what each step of the search comes to.
-use Rattle.std.specs.Prelude.{ℕ, Bool, List, Option, [], Vec}
+use Rattle.std.specs.Prelude.{ℕ, Bool, List, Option, Vec}
+use Rattle.std.specs.List.{AllByRecursion}
 use Rattle.std.specs.declared.alloc.Global.{Global}
 use Rattle.si_flat.specs.declared.Cell.{Cell}
 use Rattle.si_unify.specs.Solving.{Pairs}
 use Rattle.si_subsume.specs.declared.search.Choice.{Choice}
 use Rattle.si_subsume.specs.declared.search.Task.{Task}
-use Rattle.si_subsume.specs.Heads.{IsIndexOf, TakesFrom}
-use Rattle.si_subsume.specs.Search.{AreFlatLiterals, FindsTarget, IsUnderway, IsDead, GoesOnFrom, CanEnd, AnswersSearch, AnswersSlices}
+use Rattle.si_subsume.specs.Heads.{slice_head, IsIndexOf, HasTarget, TakesFrom}
+use Rattle.si_subsume.specs.Search.{AreFlatLiterals, FindsTarget, IsUnderway, IsDead, GoesOnFrom, AnswersSearch, AnswersSlices}
 
 -- the literals and the targets are flat, and the index is that of the targets by their heads
 pub record IsSearchable (task : Task) : Type 0 where
@@ -34,9 +35,10 @@ CannotGoOn task = IsDead task.slots task.targets.now task.literals.now
 abbrev pub Advances : Task → List Choice → ℕ → List Choice → Pairs → Option ℕ → Type 0
 Advances task = GoesOnFrom task.slots task.literals.now task.targets.now
 
-abbrev pub HasNoMap : Task → Type 0
-HasNoMap task = (ns : List ℕ)
-    → CanEnd task.slots task.targets.now [] task.literals.now ns → ⊥
+-- for each literal some target begins with the same symbol, of the same arity
+abbrev pub EachHasTarget : Task → Type 0
+EachHasTarget task =
+    AllByRecursion (λ literal. HasTarget task.targets.now (slice_head literal)) task.literals.now
 
 -- the choices of the least map
 abbrev pub FindsChoices : Task → Option (Vec Choice Global) → Type 0

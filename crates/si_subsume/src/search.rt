@@ -1,9 +1,9 @@
 // The search for the least map.
-ghost use Rattle.std.specs.Prelude.{IsFalse, ◌≡◌, ℕ, ◌<◌, [], length, IfOk};
+ghost use Rattle.std.specs.Prelude.{IsTrue, ◌≡◌, ◌↔◌, ℕ, ◌<◌, [], length, IfOk};
 ghost use Rattle.si_subsume.specs.Heads.{head_of, first_cell, IsFirstToTry};
 ghost use Rattle.si_unify.specs.Solving.{AllowsSolving};
 ghost use Rattle.si_subsume.specs.Search.{IsFlatLiteral, NextNumber};
-ghost use Rattle.si_subsume.specs.Tasks.{IsSearchable, Tries, Finds, StandsAt, CannotGoOn, Advances, HasNoMap, FindsChoices};
+ghost use Rattle.si_subsume.specs.Tasks.{IsSearchable, Tries, Finds, StandsAt, CannotGoOn, Advances, EachHasTarget, FindsChoices};
 
 use crate::heads::{Heads, head_of};
 use si_flat::Cell;
@@ -159,10 +159,10 @@ fn turn<'a>(
     }
 }
 
-/// Whether each literal has a target with its head. Otherwise there is no map.
+/// Whether each literal has a target with its head. Without one there is no map.
 pub(crate) fn each_has_target(task: &Task<'_>) -> bool
     requires searchable { IsSearchable task.now }
-    ensures { IsFalse result → HasNoMap task.now }
+    ensures { IsTrue result ↔ EachHasTarget task.now }
 {
     let end = task.targets.len();
     for i in 0..task.literals.len() {

@@ -37,7 +37,7 @@ use Rattle.si_term.specs.declared.clause.Name as program_name
 use Rattle.si_term.specs.declared.clause.Literal as program_literal
 use Rattle.si_term.specs.declared.clause.Pattern as program_pattern
 use Rattle.si_term.specs.Meaning.{name_of, clause_of, pattern_of}
-use Rattle.si_session.specs.Commands.{IsPerformed, ReadsCommand, ReadsQuery, AddForeign, Commands, kind_word}
+use Rattle.si_session.specs.Commands.{IsPerformed, ReadsCommand, ReadsQuery, AddForeign, Commands, MeansAlone, kind_word}
 use Rattle.si_session.specs.declared.command.Command as read
 use Rattle.si_session.specs.declared.command.Command.TheVariants as command
 
@@ -205,13 +205,30 @@ load_wrong ts none = other_wrong Load ts (λ e. cc) (λ c h. let f = only Load c
 pub load_read : (ts : List Token) (file : Bytes) → IsFileToken file ts → Commands (lower (command_text Load) ∷ ts) End (command.Load file)
 load_read ts file h = (refl, record { operands = ts; spelled = h; whole = refl })
 
--- ---- `stats`
--- something stands after the word
-pub stats_wrong : (ts : List Token) → (ts ≡ [] → ⊥) → Commands (lower (command_text Stats) ∷ ts) End command.Wrong
-stats_wrong ts some = other_wrong Stats ts (λ e. cc) (λ c h. some (only Stats c ts h).1)
+-- ---- words that stand alone
+module _ (w : Word) (read_as : read.Command) (ts : List Token) (alone : MeansAlone w read_as) where
+  -- something stands after the word
+  pub alone_wrong : (ts ≡ [] → ⊥) → Commands (lower (command_text w) ∷ ts) End command.Wrong
+  alone_wrong some =
+      elim alone [
+        | inl is ↦
+            subst (λ v. Commands (lower (command_text v) ∷ ts) End command.Wrong) (sym is.0)
+            (other_wrong Stats ts (λ e. cc) (λ c h. some (only Stats c ts h).1))
+        | inr is ↦
+            subst (λ v. Commands (lower (command_text v) ∷ ts) End command.Wrong) (sym is.0)
+            (other_wrong Tree ts (λ e. cc) (λ c h. some (only Tree c ts h).1))
+      ]
 
-pub stats_read : (ts : List Token) → ts ≡ [] → Commands (lower (command_text Stats) ∷ ts) End command.Stats
-stats_read ts none = (refl, record { operands = ts; spelled = none; whole = refl })
+  pub alone_read : ts ≡ [] → Commands (lower (command_text w) ∷ ts) End read_as
+  alone_read none =
+      elim alone [
+        | inl is ↦
+            subst (λ v. Commands (lower (command_text v) ∷ ts) End read_as) (sym is.0)
+            (subst (Commands (lower (command_text Stats) ∷ ts) End) (sym is.1) (refl, record { operands = ts; spelled = none; whole = refl }))
+        | inr is ↦
+            subst (λ v. Commands (lower (command_text v) ∷ ts) End read_as) (sym is.0)
+            (subst (Commands (lower (command_text Tree) ∷ ts) End) (sym is.1) (refl, record { operands = ts; spelled = none; whole = refl }))
+      ]
 
 -- ---- `sample`
 -- no start and count stand after the word
@@ -299,13 +316,6 @@ query_wrong r ts none = other_wrong (Ask r) ts (λ e. cc) (λ c h. let q = only 
 
 pub query_read : (r : Relation) (ts : List Token) (p : program_pattern.Pattern) → ReadsQuery ts (Some p) → Commands (lower (command_text (Ask r)) ∷ ts) End (command.Query r p)
 query_read r ts p h = (refl, record { operands = ts; spelled = h.0; whole = refl }, h.1)
-
--- ---- `tree`
-pub tree_wrong : (ts : List Token) → (ts ≡ [] → ⊥) → Commands (lower (command_text Tree) ∷ ts) End command.Wrong
-tree_wrong ts some = other_wrong Tree ts (λ e. cc) (λ c h. some (only Tree c ts h).1)
-
-pub tree_read : (ts : List Token) → ts ≡ [] → Commands (lower (command_text Tree) ∷ ts) End command.Tree
-tree_read ts none = (refl, record { operands = ts; spelled = none; whole = refl })
 
 -- ---- `explain`
 -- no word of a relation stands after the word

@@ -1,10 +1,11 @@
 -- What the reader of command lines gives.
-use Rattle.std.specs.Prelude.{◌≡◌, List, [], ◌∷◌, Option, None, Some, codes, map}
+use Rattle.std.specs.Prelude.{◌≡◌, ◌⊎◌, List, [], ◌∷◌, Option, None, Some, codes, map}
 use Rattle.si_defs.specs.Bytes.{Bytes}
 use Rattle.si_defs.specs.Clauses.{Pattern, IsSoundClause, IsSoundPattern, AreSoundLiterals}
 use Rattle.si_defs.specs.Tokens.{Token, lower, AreBlanks}
 use Rattle.si_state.specs.Samples.{AllowsSample}
-use Rattle.si_steps.specs.declared.word.Word.TheVariants.{Add}
+use Rattle.si_steps.specs.declared.word.Word.{Word}
+use Rattle.si_steps.specs.declared.word.Word.TheVariants.{Add, Stats, Tree}
 use Rattle.si_steps.specs.Words.{command_text}
 use Rattle.si_steps.specs.Commands as defs
 use Rattle.si_steps.specs.Commands.{IsQuery, AddsForeign, IsCommand, Means}
@@ -82,6 +83,11 @@ Commands ts why (command.Subsumers ls) =
 Commands ts why (command.Subsumed ls) =
     (why ≡ End) × IsCommand (defs.subsumed (map literal_of ls)) ts
     × AreSoundLiterals (map literal_of ls)
+
+-- a word without operands, and the command that it is
+abbrev pub MeansAlone : Word → Command → Type 0
+MeansAlone word c =
+    ((word ≡ Stats) × (c ≡ command.Stats)) ⊎ ((word ≡ Tree) × (c ≡ command.Tree))
 
 -- the word of a kind of pattern
 abbrev pub kind_word : PatternKind → Bytes

@@ -7,8 +7,9 @@ ghost use Rattle.si_lex.specs.declared.lexing.TokensEnd.TheVariants.{End};
 ghost use Rattle.si_defs.specs.declared.TheConstants.{MOST_BYTES};
 ghost use Rattle.si_parse.specs.declared.pattern.PatternKind.{PatternKind};
 ghost use Rattle.si_steps.specs.Words.{command_text};
-ghost use Rattle.si_steps.specs.declared.word.Word.TheVariants.{Add, Load, Remove, Ask, Subsumers, Subsumed, Stats, Tree, Explain, Sample};
-ghost use Rattle.si_session.specs.Commands.{Commands, ReadsCommand, ReadsQuery, kind_word};
+ghost use Rattle.si_steps.specs.declared.word.Word.{Word};
+ghost use Rattle.si_steps.specs.declared.word.Word.TheVariants.{Add, Load, Remove, Ask, Subsumers, Subsumed, Explain, Sample};
+ghost use Rattle.si_session.specs.Commands.{Commands, MeansAlone, ReadsCommand, ReadsQuery, kind_word};
 
 use crate::adding::added_at_once;
 use crate::number::numeral_of;
@@ -90,8 +91,8 @@ fn command_of(alloc: Global, tokens: &[Lexeme<'_>], why: TokensEnd) -> Result<Co
         Some(Word::Ask(relation)) => query_command(alloc, relation, rest),
         Some(Word::Subsumers) => subsumers_command(alloc, rest),
         Some(Word::Subsumed) => subsumed_command(alloc, rest),
-        Some(Word::Stats) => Ok(stats_command(rest)),
-        Some(Word::Tree) => Ok(tree_command(rest)),
+        Some(Word::Stats) => Ok(lone_command(Command::Stats, rest)),
+        Some(Word::Tree) => Ok(lone_command(Command::Tree, rest)),
         Some(Word::Explain) => explain_command(alloc, rest),
         Some(Word::Sample) => Ok(sample_command(rest)),
         None => Ok(Command::Wrong),
@@ -148,23 +149,13 @@ fn remove_command(alloc: Global, tokens: &[Lexeme<'_>]) -> Result<Command, Alloc
     }
 }
 
-/// The command that the word `stats` begins, by the tokens after it.
-fn stats_command(tokens: &[Lexeme<'_>]) -> Command
-    ensures { Commands (lower (command_text Stats) ∷ tokens_of tokens.now) End result }
+/// The command that a word begins which alone is this one, by the tokens after it.
+fn lone_command(command: Command, tokens: &[Lexeme<'_>]) -> Command
+    ensures { (word : Word) → MeansAlone word command
+        → Commands (lower (command_text word) ∷ tokens_of tokens.now) End result }
 {
     if tokens.is_empty() {
-        Command::Stats
-    } else {
-        Command::Wrong
-    }
-}
-
-/// The command that the word `tree` begins, by the tokens after it.
-fn tree_command(tokens: &[Lexeme<'_>]) -> Command
-    ensures { Commands (lower (command_text Tree) ∷ tokens_of tokens.now) End result }
-{
-    if tokens.is_empty() {
-        Command::Tree
+        command
     } else {
         Command::Wrong
     }

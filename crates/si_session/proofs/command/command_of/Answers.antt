@@ -1,6 +1,7 @@
-use Rattle.std.proofs.Common.{rules, ◌≡◌, List, ◌∷◌, ap, sym, ◌∙◌, subst}
+use Rattle.std.proofs.Common.{rules, ◌≡◌, List, ◌∷◌, inl, inr, refl, ap, sym, ◌∙◌, subst}
 use Rattle.std.specs.Prelude.{IfOk}
 use Rattle.si_defs.specs.Tokens.{Token, lower}
+use Rattle.si_steps.specs.declared.word.Word.TheVariants.{Stats, Tree}
 use Rattle.si_steps.specs.Words.{command_text}
 use Rattle.si_lex.specs.Lexemes.{token_of, tokens_of}
 use Rattle.si_lex.specs.declared.lexeme.Lexeme.{Lexeme}
@@ -40,10 +41,10 @@ returns-in-Some-Remove-clause-read c =
 pub returns-in-Some-Stats-clause-read : goal.returns-in-Some-Stats-clause-read
 returns-in-Some-Stats-clause-read c =
     let end : c.args.why ≡ End = search rules in
-    subst (λ s. Commands (tokens_of c.args.tokens.now) s c.stats_command.result) (sym end)
-    (subst (λ ts. Commands ts End c.stats_command.result)
+    subst (λ s. Commands (tokens_of c.args.tokens.now) s c.lone_command.result) (sym end)
+    (subst (λ ts. Commands ts End c.lone_command.result)
     (front c.args.tokens.now c.in-Some.first.now c.in-Some.rest.now _ c.in-Some.ensures.cases.0
-    (c.in-Some-Stats.ensures.found ∙ ap (λ w. lower (command_text w)) c.in-Some-Stats.field-0-is)) c.stats_command.ensures)
+    (c.in-Some-Stats.ensures.found ∙ ap (λ w. lower (command_text w)) c.in-Some-Stats.field-0-is)) (c.lone_command.ensures Stats (inl (refl, refl))))
 
 pub returns-in-Some-Sample-clause-read : goal.returns-in-Some-Sample-clause-read
 returns-in-Some-Sample-clause-read c =
@@ -87,10 +88,10 @@ returns-in-Some-Subsumed-clause-read c =
 pub returns-in-Some-Tree-clause-read : goal.returns-in-Some-Tree-clause-read
 returns-in-Some-Tree-clause-read c =
     let end : c.args.why ≡ End = search rules in
-    subst (λ s. Commands (tokens_of c.args.tokens.now) s c.tree_command.result) (sym end)
-    (subst (λ ts. Commands ts End c.tree_command.result)
+    subst (λ s. Commands (tokens_of c.args.tokens.now) s c.lone_command-in-Some-Tree.result) (sym end)
+    (subst (λ ts. Commands ts End c.lone_command-in-Some-Tree.result)
     (front c.args.tokens.now c.in-Some.first.now c.in-Some.rest.now _ c.in-Some.ensures.cases.0
-    (c.in-Some-Tree.ensures.found ∙ ap (λ w. lower (command_text w)) c.in-Some-Tree.field-0-is)) c.tree_command.ensures)
+    (c.in-Some-Tree.ensures.found ∙ ap (λ w. lower (command_text w)) c.in-Some-Tree.field-0-is)) (c.lone_command-in-Some-Tree.ensures Tree (inr (refl, refl))))
 
 pub returns-in-Some-Explain-clause-read : goal.returns-in-Some-Explain-clause-read
 returns-in-Some-Explain-clause-read c =

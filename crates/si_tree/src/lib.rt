@@ -1,12 +1,14 @@
 //! Substitution trees (Graf 1996) that are always legal: `Legal.antt` of si_legal says which are.
 #![tactic(auto)]
 
+mod count;
 mod dropping;
 mod fork;
 mod hashed;
 mod heads;
 mod node;
 mod numbers;
+mod places;
 mod postings;
 mod renumber;
 mod rights;

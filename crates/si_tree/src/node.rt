@@ -555,7 +555,7 @@ impl TreeNode {
             Below::Fork(_, _) => unreachable!(),
             Below::Inner(_, _) => unreachable!(),
             Below::One(parent, slot) => Below::with_another(alloc, *parent, *slot, posting)?,
-            Below::Many(_, postings) => return postings.push(posting),
+            Below::Many(_, postings) => return postings.push(alloc, posting),
         };
         self.below = below;
         Ok(())

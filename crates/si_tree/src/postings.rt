@@ -3,8 +3,9 @@ ghost use Rattle.std.specs.Prelude.{◌≡◌, ◌<◌, ◌≤◌, ◌^◌, ◌�
 ghost use Rattle.si_defs.specs.Substitutions.{IsAmong};
 ghost use Rattle.si_legal.specs.declared.Posting as posting;
 ghost use Rattle.si_tree.specs.Changes.{IsWithout};
-ghost use Rattle.si_tree.specs.Slots.{filled, posting_in, standing, stands, HasPostingAt};
+ghost use Rattle.si_tree.specs.Slots.{count_in, filled, posting_in, standing, stands, HasPostingAt};
 
+use crate::count::Count;
 use si_legal::Posting;
 use std::alloc::{AllocError, Global};
 use std::marker::Model;
@@ -29,22 +30,19 @@ pub(crate) struct Slot {
 #[derive(Drop)]
 pub(crate) struct PostingList {
     slots: Vec<Slot>,
-    count: usize,
-    // Where the first and the last posting are likely to stand.
-    first: u32,
-    last: u32,
+    count: Count,
 }
 
 impl Model for PostingList {
     ghost use Rattle.std.specs.Prelude.{◌≡◌, List, length};
     ghost use Rattle.si_legal.specs.declared.Posting.{Posting};
-    ghost use Rattle.si_tree.specs.Slots.{standing};
+    ghost use Rattle.si_tree.specs.Slots.{count_in, standing};
 
     ghost Value = { List Posting };
 
     ghost view = { λ p. standing p.slots.items };
 
-    ghost invariant = { λ p. p.count ≡ length (standing p.slots.items) };
+    ghost invariant = { λ p. count_in p.count ≡ length (standing p.slots.items) };
 }
 
 /// The postings of a node, in order. Contracts see the list.
@@ -82,9 +80,7 @@ impl PostingList {
         slots.push_reserved(second);
         Ok(PostingList {
             slots,
-            count: 2,
-            first: 0,
-            last: 1,
+            count: Count::Plain(2),
         })
     }
 
@@ -94,21 +90,19 @@ impl PostingList {
     {
         Postings {
             slots: self.slots.as_slice(),
-            count: self.count,
+            count: self.count.number(),
         }
     }
 
     /// Appends a posting. At an error the list is as before.
-    pub(crate) fn push(&mut self, posting: Posting) -> Result<(), AllocError>
+    pub(crate) fn push(&mut self, alloc: Global, posting: Posting) -> Result<(), AllocError>
         ensures ok { OnOk result (self.new ≡ self.old ++ posting ∷ []) }
         ensures err { OnErr result (self.new ≡ self.old) }
     {
         let slot = Slot::of(posting)?;
         make_room(&mut self.slots)?;
-        let place = self.slots.len();
+        self.count.add(alloc, self.slots.as_slice(), slot)?;
         self.slots.push_reserved(slot);
-        self.count += 1;
-        self.last = likely_place(place);
         Ok(())
     }
 
@@ -117,40 +111,23 @@ impl PostingList {
         requires { IsAmong self.old posting }
         ensures { IsWithout self.old posting self.new }
     {
-        let place = place_of(
-            self.slots.as_slice(),
-            self.first as usize,
-            self.last as usize,
-            posting,
-        );
+        let count = self.count.number();
+        let noted = self.count.take(self.slots.as_slice(), posting);
+        let place = place_of(self.slots.as_slice(), count, noted, posting);
         empty(&mut self.slots, place);
-        self.count -= 1;
-        self.pass(place);
         self.close();
     }
 
-    // Notes that an end no longer stands at this place.
-    fn pass(&mut self, place: usize)
-        ensures { self.new ≡ self.old }
-    {
-        if place == self.first as usize {
-            self.first = self.first.saturating_add(1);
-        }
-        if place == self.last as usize {
-            self.last = self.last.saturating_sub(1);
-        }
-    }
-
-    // Closes the empty slots where they are most.
+    // Closes the empty slots where they are most. More postings went since the last time than are
+    // passed here, so each pays for a slot or two.
     fn close(&mut self)
         ensures { self.new ≡ self.old }
     {
-        if self.slots.len() / 2 <= self.count {
+        if self.slots.len() / 2 <= self.count.number() {
             return;
         }
         self.slots.retain(|slot| slot.entry < GONE);
-        self.first = 0;
-        self.last = likely_place(self.count.saturating_sub(1));
+        self.count.renew(self.slots.as_slice());
     }
 }
 
@@ -270,6 +247,14 @@ impl Slot {
         self.entry = self.entry.saturating_add(GONE);
     }
 
+    /// The posting that stands there, or that stood there last.
+    pub(crate) fn kept(&self) -> Posting {
+        Posting {
+            clause: self.clause as usize,
+            entry: self.entry % GONE,
+        }
+    }
+
     // The posting that the slot is read as, which stands there where the slot isn't empty.
     fn posting(&self) -> Posting
         ensures clause { result.clause ≡ self.now.clause }
@@ -279,15 +264,6 @@ impl Slot {
             clause: self.clause as usize,
             entry: self.entry,
         }
-    }
-}
-
-// A place as a guess in 32 bits. For a place too large for them, which isn't likely, it is the
-// largest number, at which no posting stands.
-fn likely_place(place: usize) -> u32 {
-    match u32::try_from(place) {
-        Ok(place) => place,
-        Err(_) => u32::MAX,
     }
 }
 
@@ -312,15 +288,23 @@ fn empty(slots: &mut Vec<Slot>, place: usize)
     slots[place].entry = slots[place].entry.saturating_add(GONE);
 }
 
-// The place of a posting. Most lists rise, as keys do, and often the oldest or the newest clause
-// goes first. So it is sought at both ends, then by halves, and only then at each place.
-fn place_of(slots: &[Slot], first: usize, last: usize, posting: Posting) -> usize
+/// Whether one posting may stand before another where they rise.
+pub(crate) fn are_in_order(one: Posting, other: Posting) -> bool {
+    one.clause < other.clause || one.clause == other.clause && one.entry <= other.entry
+}
+
+// The place of a posting. It is sought where it was noted; where the first and the last one stand
+// if so far the oldest or the newest went; and by halves, as most lists rise. Only in a short list
+// is each place looked at.
+fn place_of(slots: &[Slot], count: usize, noted: Option<usize>, posting: Posting) -> usize
     requires { IsAmong (standing slots.now) posting }
     ensures { HasPostingAt slots.now result posting }
 {
+    let first = noted.unwrap_or(slots.len().saturating_sub(count));
     if is_at(slots, first, posting) {
         return first;
     }
+    let last = count.saturating_sub(1);
     if is_at(slots, last, posting) {
         return last;
     }
@@ -331,8 +315,8 @@ fn place_of(slots: &[Slot], first: usize, last: usize, posting: Posting) -> usiz
     place_from_ends(slots, posting)
 }
 
-// Whether the posting stands at this place.
-fn is_at(slots: &[Slot], place: usize, posting: Posting) -> bool
+/// Whether the posting stands at this place.
+pub(crate) fn is_at(slots: &[Slot], place: usize, posting: Posting) -> bool
     ensures yes { IsTrue result → HasPostingAt slots.now place posting }
     ensures no { IsFalse result → HasPostingAt slots.now place posting → ⊥ }
 {
@@ -348,10 +332,7 @@ fn place_if_rising(slots: &[Slot], posting: Posting) -> usize {
     let mut count = slots.len();
     while count > 1 {
         let half = count / 2;
-        let slot = slots[low + half];
-        let clause = slot.clause as usize;
-        let entry = slot.entry % GONE;
-        if clause < posting.clause || clause == posting.clause && entry <= posting.entry {
+        if are_in_order(slots[low + half].kept(), posting) {
             low += half;
         }
         count -= half;

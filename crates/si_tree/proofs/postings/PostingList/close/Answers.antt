@@ -9,7 +9,7 @@ use Rattle.si_tree.proofs.postings.PostingList.close.Goals as goal
 pub invariant_of-self : goal.invariant_of-self
 invariant_of-self c =
     let left : c.retain.new.self.items ≡ filter (λ (s : Slot). stands s) c.self.inside.slots.items = filter_same _ _ _ (λ x b f' k. search rules) _ _ c.retain.ensures.filtered in
-    c.self.invariant ∙ ap length (sym (ap standing left ∙ closed c.self.inside.slots.items))
+    c.renew.ensures ∙ c.self.invariant ∙ ap length (sym (ap standing left ∙ closed c.self.inside.slots.items))
 
 pub returns : goal.returns
 returns c =

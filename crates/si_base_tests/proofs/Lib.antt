@@ -1,2 +1,3 @@
 mod Vectors
 mod Postings
+mod Drops

@@ -18,27 +18,40 @@ use Rattle.si_tree.proofs.RootLaws.{no_leaf}
 use Rattle.si_insert.specs.Inserting.{MayInsert, Inserts}
 use Rattle.si_insert.proofs.AnewLaws.{stored_there}
 
+-- this holds of all that are stored
+abbrev pub AllStored : Tree Term → (Posting → Type 0) → Type 0
+AllStored tree P = (t : Term) (p : Posting) → IsUnder tree t p → P p
+
 -- all that are stored are of clauses below this one
 abbrev pub AreBelow : Tree Term → ℕ → Type 0
-AreBelow tree n = (t : Term) (p : Posting) → IsUnder tree t p → p.clause < n
+AreBelow tree n = AllStored tree (λ p. p.clause < n)
+
+pub all_of_none : (P : Posting → Type 0) (tree : Tree Term) → IsRootAlone tree → AllStored tree P
+all_of_none P tree alone t p h = absurd (no_leaf tree h.0 t h.1.0 alone h.1.1)
 
 pub none_stored : (tree : Tree Term) → IsRootAlone tree → AreBelow tree 0
-none_stored tree alone t p h = absurd (no_leaf tree h.0 t h.1.0 alone h.1.1)
+none_stored tree alone = all_of_none (λ p. p.clause < 0) tree alone
 
 -- ---- under one term
+all_in : (P : Posting → Type 0) (tree : Tree Term) (t : Term) (ps : List Posting) (q : Posting) → AreUnder tree t ps → AllStored tree P → IsAmong ps q → P q
+all_in P tree t ps q (inl there) all a = all t q (there.0, (ps, there.1, a))
+all_in P tree t ps q (inr none) all a = absurd (subst (λ qs. IsAmong qs q) none.1 a)
+
 below_in : (tree : Tree Term) (t : Term) (ps : List Posting) (n : ℕ) (q : Posting) → AreUnder tree t ps → AreBelow tree n → IsAmong ps q → q.clause < n
-below_in tree t ps n q (inl there) below a = below t q (there.0, (ps, there.1, a))
-below_in tree t ps n q (inr none) below a = absurd (subst (λ qs. IsAmong qs q) none.1 a)
+below_in tree t ps n q under below a = all_in (λ p. p.clause < n) tree t ps q under below a
 
 -- ---- what comes and goes
-pub gained : (old new : Tree Term) (t : Term) (p : Posting) → IsLegal new → AreBelow old p.clause → Gains old new t p → AreBelow new (suc p.clause)
-gained old new t p legal below g u q h = elim (term_or_not u t) as (λ _. q.clause < suc p.clause) [
+pub all_gained : (P Q : Posting → Type 0) (old new : Tree Term) (t : Term) (p : Posting) → IsLegal new → AllStored old P → Gains old new t p → ((q : Posting) → P q → Q q) → Q p → AllStored new Q
+all_gained P Q old new t p legal all g weaker this u q h = elim (term_or_not u t) as (λ _. Q q) [
   | inl same ↦ here (among_either g.before p q (among_leaf new t (g.before ++ p ∷ []) q legal g.last (subst (λ x. IsUnder new x q) same h)))
-  | inr other ↦ omega (arith, below u q (stored_there new old u q (λ ps k. (g.others u ps other).1 k) h))
+  | inr other ↦ weaker q (all u q (stored_there new old u q (λ ps k. (g.others u ps other).1 k) h))
 ] where
-  here : IsAmong g.before q ⊎ (p ≡ q) → q.clause < suc p.clause
-  here (inl a) = omega (arith, below_in old t g.before p.clause q g.had below a)
-  here (inr e) = omega (arith, ap (λ r. r.clause) e)
+  here : IsAmong g.before q ⊎ (p ≡ q) → Q q
+  here (inl a) = weaker q (all_in P old t g.before q g.had all a)
+  here (inr e) = subst Q e this
+
+pub gained : (old new : Tree Term) (t : Term) (p : Posting) → IsLegal new → AreBelow old p.clause → Gains old new t p → AreBelow new (suc p.clause)
+gained old new t p legal below g = all_gained (λ q. q.clause < p.clause) (λ q. q.clause < suc p.clause) old new t p legal below g (λ q h. omega (arith, h)) (omega arith)
 
 pub lost : (old new : Tree Term) (t : Term) (p : Posting) (n : ℕ) → IsLegal new → AreBelow old n → Loses old new t p → AreBelow new n
 lost old new t p n legal below l u q h = elim (term_or_not u t) as (λ _. q.clause < n) [
@@ -59,12 +72,15 @@ dropped old new key t p n legal below stands d = lost old new t p n legal below 
 stands_for : (cells : List Cell) (t : Term) → cells ≡ cells_of t → IsLeafTerm t → StandsFor cells t
 stands_for cells t e is = record { cells_are = e; sound = is.sound }
 
-pub may_insert : (tree : Tree Term) (cells : List Cell) (t : Term) (p : Posting) → cells ≡ cells_of t → IsLeafTerm t → AreBelow tree p.clause → MayInsert tree cells p
-may_insert tree cells t p e is below = (
+pub may_insert_beside : (P : Posting → Type 0) (tree : Tree Term) (cells : List Cell) (t : Term) (p : Posting) → cells ≡ cells_of t → IsLeafTerm t → AllStored tree P → (P p → ⊥) → MayInsert tree cells p
+may_insert_beside P tree cells t p e is all not = (
   t,
   stands_for cells t e is,
-  record { leaf_term = is; not_stored = λ u h. omega (arith, below u p h) },
+  record { leaf_term = is; not_stored = λ u h. not (all u p h) },
 )
+
+pub may_insert : (tree : Tree Term) (cells : List Cell) (t : Term) (p : Posting) → cells ≡ cells_of t → IsLeafTerm t → AreBelow tree p.clause → MayInsert tree cells p
+may_insert tree cells t p e is below = may_insert_beside (λ q. q.clause < p.clause) tree cells t p e is below (λ h. omega (arith, h))
 
 module _ (old new : Tree Term) (cells : List Cell) (t : Term) (p : Posting) (key : ℕ) (e : cells ≡ cells_of t) (is : IsLeafTerm t) (i : Inserts old new cells p key) where
   pub inserted : IsLegal new → AreBelow old p.clause → AreBelow new (suc p.clause)
@@ -72,3 +88,6 @@ module _ (old new : Tree Term) (cells : List Cell) (t : Term) (p : Posting) (key
 
   pub stands_in : StandsIn new key t p
   stands_in = i.stands t (stands_for cells t e is)
+
+  pub all_inserted : (P Q : Posting → Type 0) → IsLegal new → AllStored old P → ((q : Posting) → P q → Q q) → Q p → AllStored new Q
+  all_inserted P Q legal all weaker this = all_gained P Q old new t p legal all (i.gains t (stands_for cells t e is)) weaker this

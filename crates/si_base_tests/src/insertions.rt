@@ -52,7 +52,7 @@ fn put_term(
 }
 
 // Puts a posting under the term of these cells.
-fn put(
+pub(crate) fn put(
     alloc: Global,
     tree: &mut Tree,
     cells: &[Cell],

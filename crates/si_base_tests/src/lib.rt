@@ -11,6 +11,8 @@ mod insertions;
 #[cfg(test)]
 mod lanes;
 #[cfg(test)]
+mod leaves;
+#[cfg(test)]
 mod samples;
 #[cfg(test)]
 mod trails;

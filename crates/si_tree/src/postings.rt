@@ -3,7 +3,7 @@ ghost use Rattle.std.specs.Prelude.{◌≡◌, ◌<◌, ◌≤◌, ◌^◌, ◌�
 ghost use Rattle.si_defs.specs.Substitutions.{IsAmong};
 ghost use Rattle.si_legal.specs.declared.Posting as posting;
 ghost use Rattle.si_tree.specs.Changes.{IsWithout};
-ghost use Rattle.si_tree.specs.Slots.{count_in, filled, posting_in, standing, stands, HasPostingAt};
+ghost use Rattle.si_tree.specs.Slots.{filled, posting_in, standing, stands, HasPostingAt};
 
 use crate::count::Count;
 use si_legal::Posting;

@@ -1,5 +1,5 @@
 // Which clauses hold an instance of a literal.
-ghost use Rattle.std.specs.Prelude.{◌≡◌, ◌<◌, ℕ, Bool, true, IfOk, IsTrue, OnOk, length, slice_set};
+ghost use Rattle.std.specs.Prelude.{◌≡◌, ◌<◌, ◌↔◌, ℕ, Bool, true, IfOk, IsTrue, OnOk, length, slice_set};
 ghost use Rattle.std.specs.List.{AllByRecursion};
 ghost use Rattle.si_defs.specs.Clauses.{IsSoundClause, IsSoundPattern, literal_pattern};
 ghost use Rattle.si_defs.specs.Entries.{Entry};
@@ -70,7 +70,7 @@ impl Holders {
 
     /// Whether the clause in this slot holds no instance.
     pub(crate) fn rules_out(&self, slot: usize) -> bool
-        ensures { IsTrue result → IsRuledOut self.now slot }
+        ensures { IsTrue result ↔ IsRuledOut self.now slot }
     {
         match self.marks.get(slot) {
             Some(mark) => !*mark,

@@ -1,8 +1,8 @@
 -- The postings that stand in slots.
 use Rattle.std.specs.Prelude.{◌≡◌, ℕ, Bool, true, false, nat_lt, List, [], ◌∷◌, Some, slice_get}
 use Rattle.si_legal.specs.declared.Posting.{Posting}
-use Rattle.si_tree.specs.declared.count.Count.{Count}
-use Rattle.si_tree.specs.declared.count.Count.TheVariants.{Plain, Hashed}
+use Rattle.si_tree.specs.declared.count.PostingCount.{PostingCount}
+use Rattle.si_tree.specs.declared.count.PostingCount.TheVariants.{Plain, Hashed}
 use Rattle.si_tree.specs.declared.postings.Slot.{Slot}
 use Rattle.si_tree.specs.declared.postings.TheConstants.{GONE}
 
@@ -32,6 +32,6 @@ abbrev pub HasPostingAt : List Slot → ℕ → Posting → Type 0
 HasPostingAt ss place p = (slice_get ss place ≡ Some (filled p)) × (stands (filled p) ≡ true)
 
 -- how many postings a list has
-abbrev pub count_in : Count → ℕ
+abbrev pub count_in : PostingCount → ℕ
 count_in (Plain count) = count
 count_in (Hashed count places) = count

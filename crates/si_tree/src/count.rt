@@ -2,7 +2,7 @@
 ghost use Rattle.std.specs.Prelude.{◌≡◌, ◌+◌, ◌-◌, IfOk, OnErr, OnOk};
 ghost use Rattle.si_tree.specs.Slots.{count_in};
 
-use crate::places::Places;
+use crate::places::HashedPlaces;
 use crate::postings::{Slot, are_in_order};
 use si_legal::Posting;
 use std::alloc::{AllocError, Global};
@@ -13,25 +13,25 @@ const SHORT: usize = 16;
 /// How many postings a list has. The number shares the room of the mark that says whether their
 /// places are hashed, as they are in a long list that doesn't rise.
 #[derive(Drop)]
-pub(crate) enum Count {
+pub(crate) enum PostingCount {
     Plain(u32),
-    Hashed(u32, Box<Places>),
+    Hashed(u32, Box<HashedPlaces>),
 }
 
-impl Count {
+impl PostingCount {
     /// The number.
     pub(crate) fn number(&self) -> usize
         ensures { result ≡ count_in self.now }
     {
         match self {
-            Count::Plain(count) => *count as usize,
-            Count::Hashed(count, _) => *count as usize,
+            PostingCount::Plain(count) => *count as usize,
+            PostingCount::Hashed(count, _) => *count as usize,
         }
     }
 
-    /// Counts one that is about to come into another slot. From the one on with which a long list
-    /// doesn't rise, places are hashed: as many as came since the list was last short, so each pays
-    /// for a few. At an error all is as before.
+    /// Counts one more, for which a slot is about to be pushed. Where a long list would stop rising,
+    /// its places are hashed: as many as came since it was last short, so each pays for a few. At an
+    /// error all is as before.
     pub(crate) fn add(
         &mut self,
         alloc: Global,
@@ -42,7 +42,7 @@ impl Count {
         ensures err { OnErr result (count_in self.new ≡ count_in self.old) }
     {
         let more = match self {
-            Count::Plain(count) => {
+            PostingCount::Plain(count) => {
                 let more = one_more(*count)?;
                 if slots.len() < SHORT || rise_with(slots, slot) {
                     *count = more;
@@ -50,19 +50,19 @@ impl Count {
                 }
                 more
             }
-            Count::Hashed(count, places) => {
+            PostingCount::Hashed(count, places) => {
                 let more = one_more(*count)?;
                 if places.has_room(slots.len()) {
                     places.note(slot, slots.len());
                 } else {
-                    **places = Places::of(alloc, slots, slot)?;
+                    **places = HashedPlaces::of(alloc, slots, slot)?;
                 }
                 *count = more;
                 return Ok(());
             }
         };
-        let places = Places::of(alloc, slots, slot)?;
-        *self = Count::Hashed(more, Box::new(alloc, places)?);
+        let places = HashedPlaces::of(alloc, slots, slot)?;
+        *self = PostingCount::Hashed(more, Box::new(alloc, places)?);
         Ok(())
     }
 
@@ -71,29 +71,29 @@ impl Count {
         ensures { count_in self.new ≡ count_in self.old - 1 }
     {
         match self {
-            Count::Plain(count) => {
+            PostingCount::Plain(count) => {
                 *count = count.saturating_sub(1);
                 None
             }
-            Count::Hashed(count, places) => {
+            PostingCount::Hashed(count, places) => {
                 *count = count.saturating_sub(1);
-                places.place(slots, posting)
+                places.take(slots, posting)
             }
         }
     }
 
-    /// Hashes the places anew, after the slots were closed, unless few are left. It takes no memory.
+    /// Hashes the places anew after slots were closed, unless few are left. It takes no memory.
     pub(crate) fn renew(&mut self, slots: &[Slot])
         ensures { count_in self.new ≡ count_in self.old }
     {
-        let Count::Hashed(count, places) = self else {
+        let PostingCount::Hashed(count, places) = self else {
             return;
         };
         if slots.len() > SHORT {
             places.renew(slots);
             return;
         }
-        *self = Count::Plain(*count);
+        *self = PostingCount::Plain(*count);
     }
 }
 

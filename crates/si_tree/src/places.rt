@@ -6,28 +6,36 @@ use si_legal::Posting;
 use std::alloc::{AllocError, Global};
 use std::marker::Model;
 
-// In what is free no place is noted. No slot has so great a place.
+// In what is free no place is noted.
 const FREE: u32 = u32::MAX;
+
+// Nor in what a posting left; but what was noted past it is still found.
+const LEFT: u32 = u32::MAX - 1;
 
 /// Where postings stand, hashed by open addressing with linear probing (Knuth, The Art of Computer
 /// Programming, volume 3, section 6.4): the place of a posting is noted in the first part of the
-/// table that is free, from the one on that the posting names. What went is noted until the slots
-/// are closed. Nothing is promised of it: who takes a place looks whether the posting stands there.
+/// table in which none is, from the one on that the posting names. What a posting left is noted
+/// anew, so one that goes and comes again takes no further part. Nothing is promised of a place: who
+/// takes it looks whether the posting stands there.
 #[derive(Drop)]
-pub(crate) struct Places {
+pub(crate) struct HashedPlaces {
     table: Vec<u32>,
 }
 
-impl Model for Places {
+impl Model for HashedPlaces {
     ghost Value = { Unit {0} };
 
     ghost view = { λ p. tt };
 }
 
-impl Places {
+impl HashedPlaces {
     /// The places of all postings that stand in slots, and of one more after them.
-    pub(crate) fn of(alloc: Global, slots: &[Slot], last: Slot) -> Result<Places, AllocError> {
-        let mut places = Places {
+    pub(crate) fn of(
+        alloc: Global,
+        slots: &[Slot],
+        last: Slot,
+    ) -> Result<HashedPlaces, AllocError> {
+        let mut places = HashedPlaces {
             table: vec![in alloc; FREE; size_for(slots.len())]?,
         };
         places.note_all(slots);
@@ -45,26 +53,30 @@ impl Places {
         let Ok(place) = u32::try_from(place) else {
             return;
         };
+        if place >= LEFT {
+            return;
+        }
         let first = first_for(slot.kept(), self.table.len());
         let (front, back) = self.table.split_at_mut(first);
         for part in back.iter_mut().chain(front.iter_mut()) {
-            if *part == FREE {
+            if *part >= LEFT {
                 *part = place;
                 return;
             }
         }
     }
 
-    /// The place of a posting, if one was noted at which it stands.
-    pub(crate) fn place(&self, slots: &[Slot], posting: Posting) -> Option<usize> {
+    /// The place of a posting, if one is noted at which it stands. It isn't noted any more then.
+    pub(crate) fn take(&mut self, slots: &[Slot], posting: Posting) -> Option<usize> {
         let first = first_for(posting, self.table.len());
-        let (front, back) = self.table.split_at(first);
-        for part in back.iter().chain(front.iter()) {
+        let (front, back) = self.table.split_at_mut(first);
+        for part in back.iter_mut().chain(front.iter_mut()) {
             if *part == FREE {
                 return None;
             }
             let place = *part as usize;
             if is_at(slots, place, posting) {
+                *part = LEFT;
                 return Some(place);
             }
         }

@@ -5,7 +5,7 @@ ghost use Rattle.si_legal.specs.declared.Posting as posting;
 ghost use Rattle.si_tree.specs.Changes.{IsWithout};
 ghost use Rattle.si_tree.specs.Slots.{filled, posting_in, standing, stands, HasPostingAt};
 
-use crate::count::Count;
+use crate::count::PostingCount;
 use si_legal::Posting;
 use std::alloc::{AllocError, Global};
 use std::marker::Model;
@@ -30,7 +30,7 @@ pub(crate) struct Slot {
 #[derive(Drop)]
 pub(crate) struct PostingList {
     slots: Vec<Slot>,
-    count: Count,
+    count: PostingCount,
 }
 
 impl Model for PostingList {
@@ -80,7 +80,7 @@ impl PostingList {
         slots.push_reserved(second);
         Ok(PostingList {
             slots,
-            count: Count::Plain(2),
+            count: PostingCount::Plain(2),
         })
     }
 
@@ -118,8 +118,8 @@ impl PostingList {
         self.close();
     }
 
-    // Closes the empty slots where they are most. More postings went since the last time than are
-    // passed here, so each pays for a slot or two.
+    // Closes the empty slots where they are most. Of the slots passed here more than half were
+    // emptied since the last time, so each removal pays for less than two.
     fn close(&mut self)
         ensures { self.new ≡ self.old }
     {
@@ -127,6 +127,7 @@ impl PostingList {
             return;
         }
         self.slots.retain(|slot| slot.entry < GONE);
+        self.slots.shrink_to_fit();
         self.count.renew(self.slots.as_slice());
     }
 }

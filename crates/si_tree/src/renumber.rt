@@ -16,6 +16,9 @@ use std::alloc::AllocError;
 // As few numbers as these are never worth a renumbering.
 const SPARE_NUMBERS: u64 = 256;
 
+// A number that is given pays for the visit of a node, or of so many cells.
+const CELLS_A_NUMBER: usize = 16;
+
 // A node that is to be numbered, and how many indicators are opened above it.
 #[derive(Clone, Copy)]
 struct Visit {
@@ -31,11 +34,13 @@ struct Renumbered {
     split: u32,
 }
 
-// What all nodes are to have, and the number above all indicators then.
+// What all nodes are to have, the number above all indicators then, and how many cells of right
+// sides there are.
 #[derive(Drop)]
 struct Renumbering {
     nodes: Vec<Renumbered>,
     next: u32,
+    cells: usize,
 }
 
 impl Tree {
@@ -47,15 +52,15 @@ impl Tree {
     {
         // Should it fail, it isn't due again before the numbers have doubled.
         self.renumbered_next = self.next;
-        let Renumbering { nodes, next } = self.renumbering()?;
+        let Renumbering { nodes, next, cells } = self.renumbering()?;
         exchange(&mut self.nodes, nodes);
         self.next = next;
-        self.renumbered_next = next;
+        self.renumbered_next = next.max(worth_of(cells));
         Ok(())
     }
 
-    /// Whether so many numbers were given since the last renumbering that the next one, which
-    /// visits each node once, has fewer nodes to visit than that.
+    /// Whether so many numbers were given since the last renumbering that they pay for the next one,
+    /// which visits each node once, with all its cells.
     pub fn should_renumber(&self) -> bool
         ensures { IsTrue result → node_count self.now + SPARE_NUMBERS < self.now.next }
     {
@@ -75,6 +80,7 @@ impl Tree {
         })?;
         let mut nodes = Vec::with_capacity(self.alloc, self.nodes.len())?;
         let mut next: u32 = 1;
+        let mut cells: usize = 0;
         while let Some(visit) = left.pop() {
             let node = &self.nodes[visit.node.key as usize];
             let opened = note_rights(&mut numbers, node.bindings(), visit.opened);
@@ -85,9 +91,15 @@ impl Tree {
             })?;
             stack(&mut left, node.children(), opened)?;
             next = next.max(opened);
+            cells = cells.saturating_add(node.bindings().cells());
         }
-        Ok(Renumbering { nodes, next })
+        Ok(Renumbering { nodes, next, cells })
     }
+}
+
+// How many numbers pay for a visit of so many cells.
+fn worth_of(cells: usize) -> u32 {
+    u32::try_from(cells / CELLS_A_NUMBER).unwrap_or(u32::MAX)
 }
 
 // The number that is noted for the split, and any at a leaf.

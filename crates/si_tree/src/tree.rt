@@ -33,7 +33,8 @@ pub struct Tree {
     pub(crate) vars: u32,
     pub(crate) leaves: u64,
     pub(crate) unmerged: u64,
-    // `next` after the last renumbering, or at one that found no memory.
+    // `next` after the last renumbering, or at one that found no memory; more where that visited
+    // many cells.
     pub(crate) renumbered_next: u32,
 }
 

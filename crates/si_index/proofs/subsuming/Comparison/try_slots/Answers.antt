@@ -14,7 +14,7 @@ pub loop-i-preserved-then-rules_out : goal.loop-i-preserved-then-rules_out
 loop-i-preserved-then-rules_out c =
     let maps = IsMapIn c.args.self.now.direction (map literal_of c.args.self.now.formula.now) in
     let i = c.loop-i.i in
-    let out = passed_over maps c.args.places.now c.args.holders.now (get_or c.args.slots.now i 0) c.loop-i.mappeds c.requires.spares (c.rules_out.ensures c.if-rules_out.true) in
+    let out = passed_over maps c.args.places.now c.args.holders.now (get_or c.args.slots.now i 0) c.loop-i.mappeds c.requires.spares (c.rules_out.ensures.0 c.if-rules_out.true) in
     λ new rest.
     c.loop-i.invariant new
     (subst (λ qs. TriesSlots maps c.args.places.now qs c.loop-i.mappeds new) (sym (drop_more c.args.slots.now i 0 c.loop-i-test.true)) (c.loop-i.mappeds, out, rest))

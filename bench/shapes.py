@@ -326,6 +326,19 @@ def turns(n: int) -> Session:
     return lines(*measured, before=each(add("p(f(X#))", "c#"), n))
 
 
+def same_again(n: int) -> Session:
+    """Of n clauses of one leaf the first one goes and comes again, n times, each time with the same key."""
+    again = ["remove c0", add("p(f(X))", "c0")]
+    return lines(*(again * n), before=each(add("p(f(X#))", "c#"), n))
+
+
+def splits_beside_long_terms(n: int) -> Session:
+    """Beside ten terms of n constants a node is split and joined, 1,000 times."""
+    terms = [add(f"p{k}({listed('a#', n)})", f"l{k}") for k in range(10)]
+    turn = [add("q(a)", "c0"), add("q(b)", "c1"), "remove c0", "remove c1"]
+    return lines(*(turn * 1_000), before=terms)
+
+
 def round_a_wide_term(n: int) -> str:
     """500 terms round one of n constants and as many variables."""
     return nested("g(", f"f({listed('a#,X#', n)})", ")", 500)
@@ -347,6 +360,8 @@ TREES = (
     | come_and_go(variants, "one leaf", 2_000)
     | go(come_again, "one leaf whose keys came back", 2_000, orders=ORDERS | FROM_THE_MIDDLE)
     | {"one leaf, the middle one removed and another added, in turn": Shape(2_000, turns)}
+    | {"one leaf, the same one removed and added, in turn": Shape(2_000, same_again)}
+    | {"a split that comes and goes beside long terms": Shape(1_000, splits_beside_long_terms)}
     | every_relation("one leaf", 500, variants, "lit p(U)")
     | come_and_go(chain_of_splits, "a chain of splits", 60, 4.6)
     | {f"a chain of splits: explain {relation}": Shape(60, lambda n, r=relation: lines(

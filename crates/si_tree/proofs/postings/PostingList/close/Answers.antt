@@ -9,9 +9,9 @@ use Rattle.si_tree.proofs.postings.PostingList.close.Goals as goal
 pub invariant_of-self : goal.invariant_of-self
 invariant_of-self c =
     let left : c.retain.new.self.items ≡ filter (λ (s : Slot). stands s) c.self.inside.slots.items = filter_same _ _ _ (λ x b f' k. search rules) _ _ c.retain.ensures.filtered in
-    c.renew.ensures ∙ c.self.invariant ∙ ap length (sym (ap standing left ∙ closed c.self.inside.slots.items))
+    c.renew.ensures ∙ c.self.invariant ∙ ap length (sym (ap standing (c.shrink_to_fit.ensures.items ∙ left) ∙ closed c.self.inside.slots.items))
 
 pub returns : goal.returns
 returns c =
     let left : c.retain.new.self.items ≡ filter (λ (s : Slot). stands s) c.self.inside.slots.items = filter_same _ _ _ (λ x b f' k. search rules) _ _ c.retain.ensures.filtered in
-    ap standing left ∙ closed c.self.inside.slots.items ∙ c.self.view_is
+    ap standing (c.shrink_to_fit.ensures.items ∙ left) ∙ closed c.self.inside.slots.items ∙ c.self.view_is

@@ -16,9 +16,9 @@ exchange-requires c = are_keys c.self.inside c.self.invariant c.in_ok-nodes.fiel
 
 pub invariant_of-self-2 : goal.invariant_of-self-2
 invariant_of-self-2 c =
-    subst (λ nodes. IsKept (record (renumbered_inside c.self.inside c.in_ok-nodes.field-0) { nodes = nodes; renumbered_next = c.max.result }))
+    subst (λ nodes. IsKept (record (renumbered_inside c.self.inside c.in_ok-nodes.field-0) { nodes = nodes; renumbered_next = c.max-self-inside.result }))
     (sym c.exchange.ensures)
-    (kept_still (renumbered_inside c.self.inside c.in_ok-nodes.field-0) c.max.result (kept_then c.self.inside c.self.invariant c.in_ok-nodes.field-0 c.in_ok-nodes.ensures))
+    (kept_still (renumbered_inside c.self.inside c.in_ok-nodes.field-0) c.max-self-inside.result (kept_then c.self.inside c.self.invariant c.in_ok-nodes.field-0 c.in_ok-nodes.ensures))
 
 pub returns-clause-ok : goal.returns-clause-ok
 returns-clause-ok c =

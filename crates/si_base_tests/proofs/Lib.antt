@@ -1,3 +1,4 @@
 mod Vectors
 mod Postings
 mod Drops
+mod Nodes

@@ -45,7 +45,8 @@ const F_OF_4: Cell = Cell::App {
     len: 4,
 };
 
-fn are(found: &Bindings, wanted: &[(u32, &[Cell])]) -> bool {
+/// Whether these are the bindings, in order.
+pub fn are(found: &Bindings, wanted: &[(u32, &[Cell])]) -> bool {
     if found.len() != wanted.len() {
         return false;
     }

@@ -3,6 +3,8 @@
 #![tactic(auto)]
 
 #[cfg(test)]
+mod descents;
+#[cfg(test)]
 mod devices;
 #[cfg(test)]
 mod generalizations;
@@ -14,5 +16,7 @@ mod lanes;
 mod leaves;
 #[cfg(test)]
 mod samples;
+#[cfg(test)]
+mod shapes;
 #[cfg(test)]
 mod trails;

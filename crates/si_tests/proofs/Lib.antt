@@ -1,2 +1,3 @@
 pub mod OneSymbol
 pub mod BuiltTerms
+mod AskedTerms

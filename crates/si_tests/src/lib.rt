@@ -18,6 +18,8 @@ mod maps;
 #[cfg(test)]
 mod short;
 #[cfg(test)]
+mod solutions;
+#[cfg(test)]
 mod terms;
 #[cfg(test)]
 mod tokens;

@@ -4,9 +4,9 @@ ghost use Rattle.si_defs.specs.declared.TheConstants.{MOST_OCCURRENCES};
 
 use si_defs::{MOST_OCCURRENCES, NameKind};
 use si_harvest::{HarvestFault, HarvestLimits, Loaded, expand};
-use si_io::MemoryLibrary;
 use si_sign::{AddFault, ClauseStore, PlainStore};
 use si_term::{Name, Text};
+use si_texts::library_of;
 use std::alloc::{AllocError, Global};
 use std::process::Abort;
 use std::test::Fail;
@@ -574,18 +574,6 @@ pub(crate) fn has_only<T: ClauseStore>(
         }
     }
     Ok(store.remove_last().is_none())
-}
-
-pub(crate) fn library_of(
-    alloc: Global,
-    files: Files,
-    fails_at: u32,
-) -> Result<MemoryLibrary, AllocError> {
-    let mut library = MemoryLibrary::new(alloc, vec![in alloc; fails_at]?);
-    for (name, bytes) in files {
-        library.put(name.to_vec(alloc)?, bytes.to_vec(alloc)?)?;
-    }
-    Ok(library)
 }
 
 /// Loads a file from a library of these, where the bound is one that a load may have.

@@ -2,9 +2,10 @@
 ghost use Rattle.std.specs.Prelude.{◌<◌, ◌≤◌, IfOk};
 ghost use Rattle.si_defs.specs.declared.TheConstants.{MOST_OCCURRENCES};
 
-use crate::loads::{Answer, has_only, library_of, reported};
+use crate::loads::{Answer, has_only, reported};
 use si_harvest::{HarvestLimits, expand, take_text};
 use si_sign::ShortStore;
+use si_texts::library_of;
 use std::alloc::{AllocError, Global};
 use std::process::Abort;
 use std::test::Fail;

@@ -1,5 +1,5 @@
-//! Clauses, patterns and formulas that texts are, for tests. A text that is none is answered like
-//! want of memory.
+//! Clauses, patterns and formulas that texts are, for tests, and libraries of a few files. A text
+//! that is none is answered like want of memory.
 #![tactic(auto)]
 
 ghost use Rattle.std.specs.Prelude.{IfOk};
@@ -8,6 +8,7 @@ ghost use Rattle.si_parse.specs.Meaning.{literals_of};
 ghost use Rattle.si_term.specs.Meaning.{clause_of, pattern_of};
 
 use si_defs::MOST_BYTES;
+use si_io::MemoryLibrary;
 use si_parse::item::{Read, next_item};
 use si_parse::pattern::{PatternKind, read_pattern};
 use si_parse::text::read_formula;
@@ -51,4 +52,17 @@ pub fn formula_in(alloc: Global, text: &[u8]) -> Result<Literals, AllocError>
         return Err(AllocError);
     };
     Ok(literals)
+}
+
+/// A library of these files, of which one fetch fails, or none at 0.
+pub fn library_of(
+    alloc: Global,
+    files: &[(&[u8], &[u8])],
+    fails_at: u32,
+) -> Result<MemoryLibrary, AllocError> {
+    let mut library = MemoryLibrary::new(alloc, vec![in alloc; fails_at]?);
+    for (name, bytes) in files {
+        library.put(name.to_vec(alloc)?, bytes.to_vec(alloc)?)?;
+    }
+    Ok(library)
 }

@@ -2,14 +2,9 @@
 //! standard output.
 #![tactic(auto)]
 
-mod lines;
-mod serve;
-mod status;
-mod words;
-
 use si_io::{RealLibrary, RealSink, RealSource};
+use si_serve::{Status, decline, serve};
 use si_session::Limits;
-use status::Status;
 use std::env::args;
 use std::io::{self, BufWriter};
 use std::process::ExitCode;
@@ -21,11 +16,11 @@ fn main(rt: HostRuntime) -> ExitCode {
     let mut sink = RealSink::new(output);
     let words = match call_words(&rt) {
         Ok(words) => words,
-        Err(error) => return ExitCode::from(serve::decline(&error, &mut sink).code()),
+        Err(error) => return ExitCode::from(decline(&error, &mut sink).code()),
     };
     let mut source = RealSource::new(rt.stdin());
     let mut library = RealLibrary::new(rt);
-    let status = serve::serve(
+    let status = serve(
         rt.alloc(),
         &words,
         &Limits::standard(),
@@ -43,6 +38,3 @@ fn call_words(rt: &HostRuntime) -> io::Result<Vec<String>> {
     let words = words.collect(rt.alloc())?;
     Ok(words)
 }
-
-#[cfg(test)]
-mod tests;

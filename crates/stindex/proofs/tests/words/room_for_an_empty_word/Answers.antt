@@ -1,5 +1,0 @@
-use Rattle.stindex.proofs.EmptyWord.{room_for_nine}
-use Rattle.stindex.proofs.tests.words.room_for_an_empty_word.Goals as goal
-
-pub returns : goal.returns
-returns c = room_for_nine

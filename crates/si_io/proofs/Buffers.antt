@@ -126,6 +126,32 @@ front_handed_on now after bytes start at place end from on to within left =
     ∙ ap (λ (t : Told). append_told t rest) left
     ∙ append_told-append now (drop start (take place bytes)) rest ∙ ap (append_told now) (sym (front_held bytes start place end from to within))
 
+-- so many bytes were counted, and so many more
+raised_then : (n more count : ℕ) → raised_by (n + more) count ≡ raised_by more (raised_by n count)
+raised_then n more count = omega arith
+
+held_size : (bytes : List ℕ) (at place end : ℕ) → at ≤ place → place ≤ end → end ≤ length bytes → length (held bytes at end) ≡ length (take place bytes) - at + (end - place)
+held_size bytes at place end on to within =
+    length-drop at (take end bytes) ∙ omega (arith, on, to, length-take-le end bytes within, length-take-le place bytes (omega (arith, to, within)))
+
+-- those that are held count as taken before and after
+pub count_handed_on : (bytes : List ℕ) (start at place end after now : ℕ) → start ≤ place → at ≤ place → place ≤ end → end ≤ length bytes
+    → raised_by (length (take place bytes) - at) after ≡ raised_by (length (take place bytes) - start) now
+    → raised_by (length (held bytes at end)) after ≡ raised_by (length (held bytes start end)) now
+count_handed_on bytes start at place end after now from on to within counted =
+    ap (λ n. raised_by n after) (held_size bytes at place end on to within)
+    ∙ raised_then (length (take place bytes) - at) (end - place) after
+    ∙ ap (raised_by (end - place)) counted
+    ∙ sym (raised_then (length (take place bytes) - start) (end - place) now)
+    ∙ sym (ap (λ n. raised_by n now) (held_size bytes start place end from to within))
+
+-- what has no room for the front of them has none for all
+pub past_held : (bytes : List ℕ) (start place end room : ℕ) → place ≤ end → end ≤ length bytes
+    → room < length (drop start (take place bytes)) → room < length (held bytes start end)
+past_held bytes start place end room to within past =
+    subst (λ n. room < n) (sym (length-drop start (take end bytes)))
+    (omega (arith, past, to, length-drop start (take place bytes), length-take-le end bytes within, length-take-le place bytes (omega (arith, to, within))))
+
 -- ---- at the end of a reply
 -- What was handed on since the start, and then some rest that wasn't, is the front of a text.
 broken : (start now : Told) (text rest : List ℕ) (c : ℕ) → HasBytesSince start now → HasRoomSince start now

@@ -1,7 +1,8 @@
 -- What a sink tells that holds bytes, and what the sink below was given since a start.
-use Rattle.std.specs.Prelude.{◌≡◌, ℕ, ◌-◌, ◌^◌, ◌==◌, List, Option, None, Some, length, drop, filter, replicate, take}
+use Rattle.std.specs.Prelude.{◌≡◌, ℕ, ◌-◌, ◌<◌, ◌^◌, ◌==◌, List, Option, None, Some, OnErr, Result, length, drop, filter, replicate, take}
 use Rattle.si_io.specs.Content.{Told, bytes_then, append_told}
 use Rattle.si_io.specs.Counts.{raised_by}
+use Rattle.si_io.specs.Faults.{HasCause}
 use Rattle.si_io.specs.Shown.{SinkShown}
 
 -- the bytes from one place up to another
@@ -15,6 +16,16 @@ last_line_feed bytes = filter (λ byte. byte == 10) (drop (length bytes - 1) byt
 -- what is told of them, after what the sink below was given
 abbrev pub told_with : Told → List ℕ → ℕ → ℕ → Told
 told_with below bytes start end = append_told below (held bytes start end)
+
+-- Bytes that were held may have been given to the sink below: what is told and counted of both
+-- together is as before. A failure is one of the sink below, which had no room for all of them.
+pub record HandsOn {T E : Type 0} (result : Result T E)
+    (old : SinkShown) (old_held : List ℕ) (new : SinkShown) (new_held : List ℕ) : Type 0 where
+  pub same : append_told new.told new_held ≡ append_told old.told old_held
+  pub count : raised_by (length new_held) new.counts.bytes
+      ≡ raised_by (length old_held) old.counts.bytes
+  pub full : OnErr result (old.told.room < length old_held)
+  pub cause : HasCause old.counts.faults new.counts.faults result
 
 -- The count of a sink's own writes, where none are counted: at its end, since one more leaves it
 -- there.

@@ -4,10 +4,9 @@ ghost use Rattle.std.specs.Borrow.{GName};
 ghost use Rattle.std.proofs.Props.{props};
 ghost use Rattle.si_io.specs.Content.{untold, append_told, Receives, TakesFitting};
 ghost use Rattle.si_io.specs.Counts.{nothing_written, raised_by, write_counted};
-ghost use Rattle.si_io.specs.Faults.{HasCause};
 ghost use Rattle.si_io.specs.Sends.{WritesFew, Sends};
 ghost use Rattle.si_io.specs.Shown.{SinkShown};
-ghost use Rattle.si_io.specs.Buffering.{held, last_line_feed, told_with, gathered, begun, HasBytesSince, HasRoomSince};
+ghost use Rattle.si_io.specs.Buffering.{held, last_line_feed, HandsOn, gathered, begun, HasBytesSince, HasRoomSince};
 
 use crate::{Failed, Sink};
 use std::marker::{Brand, PhantomData};
@@ -178,20 +177,12 @@ impl<S: Borrowed, B: Origin> Buffered<S, B> {
     fn hand_on_to(&mut self, place: usize) -> Result<(), Failed>
         requires from { self.old.start ≤ place }
         requires within { place ≤ self.old.end }
-        ensures same { told_with (S.shown self.new.sink).told self.new.bytes self.new.start
-            self.new.end ≡ told_with (S.shown self.old.sink).told self.old.bytes self.old.start
-            self.old.end }
-        ensures count { raised_by (length (held self.new.bytes self.new.start self.new.end))
-            (S.shown self.new.sink).counts.bytes
-            ≡ raised_by (length (held self.old.bytes self.old.start self.old.end))
-            (S.shown self.old.sink).counts.bytes }
+        ensures handed_on { HandsOn result
+            (S.shown self.old.sink) (held self.old.bytes self.old.start self.old.end)
+            (S.shown self.new.sink) (held self.new.bytes self.new.start self.new.end) }
         ensures start { OnOk result (self.new.start ≡ place) }
         ensures bytes { self.new.bytes ≡ self.old.bytes }
         ensures end { self.new.end ≡ self.old.end }
-        ensures full { OnErr result ((S.shown self.old.sink).told.room
-            < length (held self.old.bytes self.old.start self.old.end)) }
-        ensures cause { HasCause (S.shown self.old.sink).counts.faults
-            (S.shown self.new.sink).counts.faults result }
     {
         hand_on(&mut self.sink, &self.bytes[..place], &mut self.start)
     }
@@ -214,20 +205,12 @@ impl<S: Borrowed, B: Origin> Buffered<S, B> {
     /// of a line would do so within a reply.
     #[inline(never)]
     fn hand_on_held(&mut self) -> Result<(), Failed>
-        ensures same { told_with (S.shown self.new.sink).told self.new.bytes self.new.start
-            self.new.end ≡ told_with (S.shown self.old.sink).told self.old.bytes self.old.start
-            self.old.end }
-        ensures count { raised_by (length (held self.new.bytes self.new.start self.new.end))
-            (S.shown self.new.sink).counts.bytes
-            ≡ raised_by (length (held self.old.bytes self.old.start self.old.end))
-            (S.shown self.old.sink).counts.bytes }
+        ensures handed_on { HandsOn result
+            (S.shown self.old.sink) (held self.old.bytes self.old.start self.old.end)
+            (S.shown self.new.sink) (held self.new.bytes self.new.start self.new.end) }
         ensures few { OnOk result (self.new.end ≤ 1) }
         ensures left { OnOk result (held self.new.bytes self.new.start self.new.end
             ≡ last_line_feed (held self.old.bytes self.old.start self.old.end)) }
-        ensures full { OnErr result ((S.shown self.old.sink).told.room
-            < length (held self.old.bytes self.old.start self.old.end)) }
-        ensures cause { HasCause (S.shown self.old.sink).counts.faults
-            (S.shown self.new.sink).counts.faults result }
     {
         let place = self.before_line_feed();
         self.hand_on_to(place)?;

@@ -86,7 +86,9 @@ impl<T, M: Copy> KeyedList<T, M> {
         ensures none { IfNone result (HasKey self.now.items key → ⊥) }
     {
         let place = *self.places.get(key)?;
-        let kept = self.slots[place].as_ref()?;
+        let Some(kept) = &self.slots[place] else {
+            unreachable!()
+        };
         Some(&kept.item)
     }
 
@@ -303,9 +305,10 @@ fn lead(key: usize, place: usize, places: &mut Slab<usize>)
     ensures updates { Updates places.old places.new key (Some place) }
     ensures number { slab_len places.new ≡ slab_len places.old }
 {
-    if let Some(noted) = places.get_mut(key) {
-        *noted = place;
-    }
+    let Some(noted) = places.get_mut(key) else {
+        unreachable!()
+    };
+    *noted = place;
 }
 
 /// The keys and items of a list, in order, seen as the list of those that are left.

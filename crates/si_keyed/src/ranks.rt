@@ -179,7 +179,7 @@ fn settle(counts: &[usize], above: &mut Above)
     }
     match above {
         Above::Sums(sums) => sums.sum_up(counts),
-        Above::Nothing => {}
+        Above::Nothing => unreachable!(),
     }
 }
 

@@ -1,6 +1,7 @@
 // Keys of the symbols in use.
-ghost use Rattle.std.specs.Prelude.{◌≡◌, List, ℕ, None, OnOk, OnErr};
+ghost use Rattle.std.specs.Prelude.{◌≡◌, ◌&&◌, List, ℕ, None, OnOk, OnErr, bytes_eq};
 ghost use Rattle.slab.specs.Slab.{get};
+ghost use Rattle.si_defs.specs.Symbols.{same_kind};
 ghost use Rattle.si_defs.specs.declared.SymKind.{SymKind as Kind};
 ghost use Rattle.si_term.specs.Terms.{symbol_of};
 ghost use Rattle.si_sign.specs.Hashed.{hashed_key};
@@ -77,5 +78,13 @@ fn is_at(slots: &Slab<CountedSymbol>, key: usize, kind: SymKind, text: &[u8]) ->
     let Some(counted) = slots.get(key) else {
         return false;
     };
-    counted.sym.kind == kind && counted.sym.text.as_bytes() == text
+    has_kind_and_text(&counted.sym, kind, text)
+}
+
+/// Whether a symbol has this kind and text.
+#[inline(always)]
+pub fn has_kind_and_text(symbol: &Sym, kind: SymKind, text: &[u8]) -> bool
+    ensures { result ≡ (same_kind symbol.now.kind kind && bytes_eq symbol.now.text text.now) }
+{
+    symbol.kind == kind && symbol.text.as_bytes() == text
 }

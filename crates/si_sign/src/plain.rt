@@ -5,7 +5,6 @@ ghost use Rattle.si_defs.specs.Clauses as defs;
 ghost use Rattle.si_defs.specs.Clauses.{IsSoundClause};
 ghost use Rattle.si_defs.specs.Entries.{entries, state_entries, clause_symbols, state_symbols};
 ghost use Rattle.si_defs.specs.Symbols.{Symbol};
-ghost use Rattle.si_defs.specs.Symbols as symbols;
 ghost use Rattle.si_defs.specs.Substitutions.{IsAmong};
 ghost use Rattle.si_defs.specs.declared.TheConstants.{MOST_OCCURRENCES};
 ghost use Rattle.si_state.specs.States.{limited_to};
@@ -17,10 +16,10 @@ ghost use Rattle.si_sign.specs.Stores.{IsStored, Rejects};
 ghost use Rattle.si_sign.specs.Plain.{lent_symbols, is_clash};
 
 use crate::faults::{AddFault, Clash, Rejected, Shape};
+use crate::keys::has_kind_and_text;
 use crate::names::is_same_name;
 use crate::store::ClauseStore;
 use crate::uses::{has_shape_of, shape};
-use si_defs::SymKind;
 use si_term::{Clause, Name, Sym, entry_count, symbols_of};
 use std::alloc::{AllocError, Global};
 use std::marker::Model;
@@ -248,19 +247,5 @@ fn find_clash(symbol: &Sym, others: &[&Sym]) -> Option<Shape>
 fn clashes(symbol: &Sym, other: &Sym) -> bool
     ensures { result ≡ is_clash (symbol_of symbol.now) (symbol_of other.now) }
 {
-    is_same_kind(symbol.kind, other.kind)
-        && symbol.text.as_bytes() == other.text.as_bytes()
-        && !has_shape_of(symbol, other)
-}
-
-fn is_same_kind(kind: SymKind, other: SymKind) -> bool
-    ensures { result ≡ symbols.same_kind kind other }
-{
-    match kind {
-        SymKind::Word => matches!(other, SymKind::Word),
-        SymKind::Dollar => matches!(other, SymKind::Dollar),
-        SymKind::Number => matches!(other, SymKind::Number),
-        SymKind::Distinct => matches!(other, SymKind::Distinct),
-        SymKind::Equal => matches!(other, SymKind::Equal),
-    }
+    has_kind_and_text(symbol, other.kind, other.text.as_bytes()) && !has_shape_of(symbol, other)
 }

@@ -40,11 +40,9 @@ impl Recent {
 fn place_of(text: &[u8]) -> usize
     ensures { result < PLACES }
 {
-    let Some(first) = text.first() else {
+    if text.is_empty() {
         return 0;
-    };
-    let Some(last) = text.last() else {
-        return 0;
-    };
-    (*first as usize + 8 * *last as usize + 3 * (text.len() % PLACES)) % PLACES
+    }
+    let (first, last) = (text[0], text[text.len() - 1]);
+    (first as usize + 8 * last as usize + 3 * (text.len() % PLACES)) % PLACES
 }

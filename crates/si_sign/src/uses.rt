@@ -11,7 +11,7 @@ ghost use Rattle.si_sign.specs.Taking.{TakesUses, GivesBack, RefusesFrom};
 use crate::faults::{Clash, Shape, TakeFault};
 use crate::keys::SymbolKeys;
 use crate::recent::Recent;
-use si_defs::{Side, SymKind};
+use si_defs::SymKind;
 use si_term::Sym;
 use slab::Slab;
 use std::alloc::{AllocError, Global};
@@ -169,11 +169,7 @@ pub fn has_shape_of(symbol: &Sym, kept: &Sym) -> bool
     ensures { result ≡ (same_side symbol.now.side kept.now.side
         && symbol.now.arity == kept.now.arity) }
 {
-    match (symbol.side, kept.side) {
-        (Side::Predicate, Side::Predicate) => symbol.arity == kept.arity,
-        (Side::Function, Side::Function) => symbol.arity == kept.arity,
-        _ => false,
-    }
+    symbol.side == kept.side && symbol.arity == kept.arity
 }
 
 /// The side and arity of a symbol.

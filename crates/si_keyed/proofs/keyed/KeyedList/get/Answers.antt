@@ -13,6 +13,6 @@ returns-in_err-place-clause-none g c =
 pub returns-clause-some : goal.returns-clause-some
 returns-clause-some g c =
     subst
-    (λ l. IsAmong l (c.args.key, c.in_ok-kept.kept.now.item))
+    (λ l. IsAmong l (c.args.key, c.in-Some.kept.item))
     (ap (λ l. l.items) c.self.view_is)
-    (got c.self.inside.slots.items _ c.args.key _ _ c.in_ok-kept.kept.now c.self.invariant.0.linked c.in_ok-place.ensures c.index.ensures c.in_ok-kept.ensures.value)
+    (got c.self.inside.slots.items _ c.args.key _ _ c.in-Some.kept c.self.invariant.0.linked c.in_ok-place.ensures c.index.ensures (sym c.in-Some.is))

@@ -33,7 +33,7 @@ use Rattle.si_descend.specs.declared.heads.Wanted.{Wanted}
 use Rattle.si_descend.specs.declared.search.Search.{Search}
 use Rattle.si_descend.specs.Attempts.{head_at, wanted_of, place_count, HasHeadBelow, AreHeadsFor, HasPlaces, IsTried, IsTriedBefore, AreAttempts}
 use Rattle.si_descend.specs.declared.pending.Pending.{Pending}
-use Rattle.si_descend.specs.Pending.{IsDue, Leaves, like, pending_at}
+use Rattle.si_descend.specs.Pending.{IsDue, Leaves, Marks, marks_of, with_marks, pending_at}
 use Rattle.si_descend.specs.Heads.{SplitsBy, IsWanted, RulesOut}
 use Rattle.si_descend.specs.Searching.{IsReady, IsAtNode, IsClosedAt}
 use Rattle.si_descend.proofs.ExactLists.{distinct_both, no_more}
@@ -221,13 +221,13 @@ module _ (search : Search) (ready : IsReady search) (key : ℕ) (node : Node Ter
         by (ByHeads heads) (h, e, p) (k, f, q) = one_by_head h child c p (subst (λ n. IsChildBy search.tree.now key n c) (same_Some k h (sym f ∙ e)) q)
 
     -- ---- with those that are pending
-    module _ (marks : Pending) (old : List Pending) where
-      pub one_more_pending : (place child : ℕ) (items new : List Pending) → place < place_count a → IsTried search key a place child → IsUnderway search key a place (λ tried. items ≡ old ++ like marks tried) → new ≡ items ++ record { node = child; mark = marks.mark; taken_mark = marks.taken_mark; whole = marks.whole } ∷ [] → IsUnderway search key a (place + 1) (λ tried. new ≡ old ++ like marks tried)
+    module _ (marks : Marks) (old : List Pending) where
+      pub one_more_pending : (place child : ℕ) (items new : List Pending) → place < place_count a → IsTried search key a place child → IsUnderway search key a place (λ tried. items ≡ old ++ with_marks marks tried) → new ≡ items ++ record { node = child; mark = marks.mark; taken_mark = marks.taken_mark; whole = marks.whole } ∷ [] → IsUnderway search key a (place + 1) (λ tried. new ≡ old ++ with_marks marks tried)
       one_more_pending place child items new within t (tried, were, e) f =
           (tried ++ child ∷ [], one_more_tried place child tried within t were, one_pending_more old items new marks tried child e f)
 
       -- they are no more than there are children
-      pub few_pending : (place child : ℕ) (items : List Pending) → place < place_count a → IsTried search key a place child → IsUnderway search key a place (λ tried. items ≡ old ++ like marks tried) → length items + 1 ≤ length old + length (children_of node.content)
+      pub few_pending : (place child : ℕ) (items : List Pending) → place < place_count a → IsTried search key a place child → IsUnderway search key a place (λ tried. items ≡ old ++ with_marks marks tried) → length items + 1 ≤ length old + length (children_of node.content)
       few_pending place child items within t (tried, were, e) =
           let next = one_more_tried place child tried within t were in
           omega (
@@ -235,21 +235,21 @@ module _ (search : Search) (ready : IsReady search) (key : ℕ) (node : Node Ter
             no_more (tried ++ child ∷ []) (children_of node.content) next.distinct (λ c b. (let w = next.before c b in tried_among w.0 c w.2)),
             length-append tried (child ∷ []),
             ap length e,
-            length-append old (like marks tried),
+            length-append old (with_marks marks tried),
             length_at marks tried,
           )
 
-      pub leaves_tried : (trail : Trail (Bor (List Cell))) (taken : Trail ⊤) → marks ≡ pending_at key trail taken → IsAtNode search key trail taken → IsWanted search key trail.pairs (wanted_of a) → (place : ℕ) (new : List Pending) → place_count a ≤ place → IsUnderway search key a place (λ tried. new ≡ old ++ like marks tried) → Leaves search (pending_at key trail taken) trail taken old new
+      pub leaves_tried : (trail : Trail (Bor (List Cell))) (taken : Trail ⊤) → marks ≡ marks_of (pending_at key trail taken) → IsAtNode search key trail taken → IsWanted search key trail.pairs (wanted_of a) → (place : ℕ) (new : List Pending) → place_count a ≤ place → IsUnderway search key a place (λ tried. new ≡ old ++ with_marks marks tried) → Leaves search (pending_at key trail taken) trail taken old new
       leaves_tried trail taken e at wanted place new through (tried, were, pushed) = record {
         tops = tried;
-        marks = pending_at key trail taken;
+        marks = marks_of (pending_at key trail taken);
         visit = record {
           distinct = were.distinct;
           within = λ n has' child b. subst (λ m. IsAmong (children_of m.content) child) (one_node search.tree.now key node n has has') (let w = were.before child b in tried_among w.0 child w.2);
           others = λ n has' child b. others child (subst (λ m. IsAmong (children_of m.content) child) (one_node search.tree.now key n node has' has) b);
         };
-        pushed = pushed ∙ ap (λ p. old ++ like p tried) e;
-        due = all_at_once (IsDue search trail taken) (pending_at key trail taken) tried
+        pushed = pushed ∙ ap (λ p. old ++ with_marks p tried) e;
+        due = all_at_once (IsDue search trail taken) (marks_of (pending_at key trail taken)) tried
             (λ child b. (let w = were.before child b in due_at_once search child trail taken (goes_down search key child trail trail taken taken (tried_child w.0 child w.2) refl refl refl at)));
         mark = omega arith;
         taken_mark = omega arith;

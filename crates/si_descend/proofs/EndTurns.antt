@@ -10,7 +10,7 @@ use Rattle.std.specs.List.{AllByRecursion, list_any}
 use Rattle.std.specs.Borrow.{Bor}
 use Rattle.si_defs.specs.Terms as terms
 use Rattle.si_defs.specs.Substitutions.{IsAmong, AreDistinct}
-use Rattle.si_defs.proofs.ListLaws.{all_weaker, all_append, among_front, among_back}
+use Rattle.si_defs.proofs.ListLaws.{all_at, all_weaker, all_append, among_front, among_back, get_among}
 use Rattle.si_flat.specs.declared.Cell.{Cell}
 use Rattle.si_flat.specs.declared.Cell.TheVariants as cell
 use Rattle.si_flat.specs.Cells.{Variable, query, entry, ind, Term, variable_cell}
@@ -147,6 +147,11 @@ module _ (slots : Slots) (pairs : Pairs) where
       let own : w ≡ is.0 = same_Some w is.0 (bound ∙ value_told pairs n found is.0 distinct is.1) in
       subst (λ u. AllByRecursion (λ c. IsClear pairs ends (cell_slot slots c)) u.now) (own ∙ sym (ap (λ p. p.1) same)) clear
 
+  pub value_clear : (ends : List ℕ) (n found m : ℕ) (w : Bor (List Cell)) → HasDistinctSlots pairs → IsSlotOf pairs n found → Some w ≡ value_at pairs found → variable_of slots found ≡ entry m → HasClearValue slots pairs ends n → AllByRecursion (λ c. IsClear pairs ends (cell_slot slots c)) w.now
+  value_clear ends n found m w distinct is bound name clear =
+      let own : w ≡ is.0 = same_Some w is.0 (bound ∙ value_told pairs n found is.0 distinct is.1) in
+      subst (λ u. AllByRecursion (λ c. IsClear pairs ends (cell_slot slots c)) u.now) (sym own) (clear found m is.0 is.1 name)
+
   -- frozen ones have none
   pub frozen_clear : (ends : List ℕ) → AllByRecursion (IsBinding slots) pairs → slots.freeze_entry ≡ true → AreClear slots pairs ends
   frozen_clear ends bindings frozen = all_weaker (IsBinding slots) (λ p. (m : ℕ) → variable_of slots p.0 ≡ entry m → AllByRecursion (λ c. IsClear pairs ends (cell_slot slots c)) p.1.now) pairs (λ p b m name. absurd (both (sym b.unfrozen ∙ ap (is_frozen slots) name ∙ frozen))) bindings where
@@ -161,6 +166,10 @@ module _ (slots : Slots) (pairs : Pairs) where
     by : (some : Pairs) → ((n : ℕ) (p : ℕ × Bor (List Cell)) → slice_get some n ≡ Some p → (m : ℕ) → variable_of slots p.0 ≡ entry m → AllByRecursion (λ c. IsClear pairs ends (cell_slot slots c)) p.1.now) → AllByRecursion (λ p. (m : ℕ) → variable_of slots p.0 ≡ entry m → AllByRecursion (λ c. IsClear pairs ends (cell_slot slots c)) p.1.now) some
     by [] give = tt
     by (p ∷ some) give = (give 0 p refl, by some (λ n q e. give (suc n) q e))
+
+  pub clear_at : (ends : List ℕ) (n : ℕ) → AreClear slots pairs ends → HasClearValue slots pairs ends n
+  clear_at ends n clear slot m value e =
+      all_at (λ p. (m : ℕ) → variable_of slots p.0 ≡ entry m → AllByRecursion (λ c. IsClear pairs ends (cell_slot slots c)) p.1.now) pairs (slot, value) clear (get_among pairs n (slot, value) e) m
 
 -- ---- down the first nodes
 pub lefts_stand : (rows : List CellPair) (bs : List Binding) → StandForBindings rows bs → left_sides rows ≡ left_sides bs

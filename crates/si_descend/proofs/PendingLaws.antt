@@ -2,7 +2,7 @@
 use Rattle.std.specs.Borrow.{Bor}
 use Rattle.std.specs.Bool.{⊤}
 use Rattle.std.specs.List.{AllByRecursion}
-use Rattle.std.proofs.Common.{◌≡◌, ◌⊎◌, inl, inr, ℕ, zero, suc, ◌+◌, ◌-◌, ◌<◌, ◌≤◌, List, [], ◌∷◌, ◌++◌, Some, length, map, take, drop, refl, ap, sym, ◌∙◌, subst, arith, append_assoc, append-nil}
+use Rattle.std.proofs.Common.{◌≡◌, ◌⊎◌, inl, inr, ℕ, ◌+◌, ◌≤◌, List, [], ◌∷◌, ◌++◌, Some, length, map, take, drop, refl, ap, sym, ◌∙◌, subst, arith, append_assoc, append-nil}
 use Rattle.std.proofs.lemmas.List.{map-append, length-append, take-append-le, length-take-le, take-append-drop, take_all}
 use Rattle.si_defs.specs.Substitutions.{IsAmong, Grows}
 use Rattle.si_defs.proofs.ListLaws.{all_front, all_back, all_append, all_with, all_weaker}
@@ -17,7 +17,7 @@ use Rattle.si_changes.proofs.Frames.{legal_nodes}
 use Rattle.si_tree.specs.Reading.{IsNode, children_of}
 use Rattle.si_descend.specs.declared.pending.Pending.{Pending}
 use Rattle.si_descend.specs.declared.search.Search.{Search}
-use Rattle.si_descend.specs.Pending.{AreWaiting, IsRisingFrom, cut, MayVisit, IsDue, AreToVisit, like, pending_at}
+use Rattle.si_descend.specs.Pending.{ArePending, IsRisingFrom, cut, MayVisit, IsDue, AreToVisit, Marks, with_marks, pending_at}
 use Rattle.si_descend.specs.Searching.{IsReady, IsAboveNode, IsOpenAt, IsClosedAt}
 use Rattle.si_descend.proofs.Below.{IsChildOf}
 use Rattle.si_descend.proofs.RightLaws.{child_among, among_child}
@@ -29,11 +29,11 @@ use Rattle.si_descend.proofs.Visiting.{siblings, same_trail}
 abbrev pub keys_of : List Pending → List ℕ
 keys_of entries = map (λ p. p.node) entries
 
-keys_at : (p : Pending) (tops : List ℕ) → keys_of (like p tops) ≡ tops
+keys_at : (p : Marks) (tops : List ℕ) → keys_of (with_marks p tops) ≡ tops
 keys_at p [] = refl
 keys_at p (top ∷ tops) = ap (λ l. top ∷ l) (keys_at p tops)
 
-pub length_at : (p : Pending) (tops : List ℕ) → length (like p tops) ≡ length tops
+pub length_at : (p : Marks) (tops : List ℕ) → length (with_marks p tops) ≡ length tops
 length_at p [] = refl
 length_at p (top ∷ tops) = omega (arith, length_at p tops)
 
@@ -41,19 +41,19 @@ pub keys_long : (entries : List Pending) → length (keys_of entries) ≡ length
 keys_long [] = refl
 keys_long (p ∷ entries) = omega (arith, keys_long entries)
 
-keys_then : (old new : List Pending) (p : Pending) (tops : List ℕ) → new ≡ old ++ like p tops → keys_of new ≡ keys_of old ++ tops
+keys_then : (old new : List Pending) (p : Marks) (tops : List ℕ) → new ≡ old ++ with_marks p tops → keys_of new ≡ keys_of old ++ tops
 keys_then old new p tops e =
-    ap keys_of e ∙ map-append (λ p. p.node) old (like p tops) ∙ ap (λ l. keys_of old ++ l) (keys_at p tops)
+    ap keys_of e ∙ map-append (λ p. p.node) old (with_marks p tops) ∙ ap (λ l. keys_of old ++ l) (keys_at p tops)
 
-pub all_at_once : (P : Pending → Type 0) (p : Pending) (tops : List ℕ) → ((key : ℕ) → IsAmong tops key → P (record { node = key; mark = p.mark; taken_mark = p.taken_mark; whole = p.whole })) → AllByRecursion P (like p tops)
+pub all_at_once : (P : Pending → Type 0) (p : Marks) (tops : List ℕ) → ((key : ℕ) → IsAmong tops key → P (record { node = key; mark = p.mark; taken_mark = p.taken_mark; whole = p.whole })) → AllByRecursion P (with_marks p tops)
 all_at_once P p [] holds = tt
 all_at_once P p (top ∷ tops) holds = (holds top (inl refl), all_at_once P p tops (λ key a. holds key (inr a)))
 
 -- one more is pending
-pub one_pending_more : (old items new : List Pending) (p : Pending) (tops : List ℕ) (key : ℕ) → items ≡ old ++ like p tops → new ≡ items ++ record { node = key; mark = p.mark; taken_mark = p.taken_mark; whole = p.whole } ∷ [] → new ≡ old ++ like p (tops ++ key ∷ [])
+pub one_pending_more : (old items new : List Pending) (p : Marks) (tops : List ℕ) (key : ℕ) → items ≡ old ++ with_marks p tops → new ≡ items ++ record { node = key; mark = p.mark; taken_mark = p.taken_mark; whole = p.whole } ∷ [] → new ≡ old ++ with_marks p (tops ++ key ∷ [])
 one_pending_more old items new p tops key e f =
     let entry : Pending = record { node = key; mark = p.mark; taken_mark = p.taken_mark; whole = p.whole } in
-    f ∙ ap (λ l. l ++ entry ∷ []) e ∙ append_assoc old (like p tops) (entry ∷ [])
+    f ∙ ap (λ l. l ++ entry ∷ []) e ∙ append_assoc old (with_marks p tops) (entry ∷ [])
     ∙ ap (λ l. old ++ l) (sym (map-append (λ k. record { node = k; mark = p.mark; taken_mark = p.taken_mark; whole = p.whole }) tops (key ∷ [])))
 
 -- ---- marks
@@ -77,11 +77,11 @@ rising_last m k (q ∷ qs) p h =
       before = ((rest.mark, rest.taken_mark), rest.before);
     }
 
-rising_flat : (m k : ℕ) (p : Pending) (tops : List ℕ) → m ≤ p.mark → k ≤ p.taken_mark → IsRisingFrom m k (like p tops)
+rising_flat : (m k : ℕ) (p : Marks) (tops : List ℕ) → m ≤ p.mark → k ≤ p.taken_mark → IsRisingFrom m k (with_marks p tops)
 rising_flat m k p [] e f = tt
 rising_flat m k p (top ∷ tops) e f = (e, f, rising_flat p.mark p.taken_mark p tops (omega arith) (omega arith))
 
-rising_more : (m k : ℕ) (p : Pending) (ps : List Pending) (tops : List ℕ) → IsRisingFrom m k ps → AllByRecursion (IsBefore p.mark p.taken_mark) ps → m ≤ p.mark → k ≤ p.taken_mark → IsRisingFrom m k (ps ++ like p tops)
+rising_more : (m k : ℕ) (p : Marks) (ps : List Pending) (tops : List ℕ) → IsRisingFrom m k ps → AllByRecursion (IsBefore p.mark p.taken_mark) ps → m ≤ p.mark → k ≤ p.taken_mark → IsRisingFrom m k (ps ++ with_marks p tops)
 rising_more m k p [] tops h before e f = rising_flat m k p tops e f
 rising_more m k p (q ∷ qs) tops h before e f = (h.0, h.1, rising_more q.mark q.taken_mark p qs tops h.2 before.1 before.0.0 before.0.1)
 
@@ -129,9 +129,9 @@ module _ (search : Search) where
     may = subst (λ t. IsAboveNode search key t (cut (length taken.pairs) taken)) (sym (cut_all (length trail.pairs) trail refl)) (subst (λ t. IsAboveNode search key trail t) (sym (cut_all (length taken.pairs) taken refl)) above);
   }
 
-  pub waiting_starts : (key : ℕ) (trail : Trail (Bor (List Cell))) (taken : Trail ⊤) (entries : List Pending) → entries ≡ pending_at key trail taken ∷ [] → IsAboveNode search key trail taken → AreWaiting search trail.pairs taken.pairs trail taken entries
+  pub waiting_starts : (key : ℕ) (trail : Trail (Bor (List Cell))) (taken : Trail ⊤) (entries : List Pending) → entries ≡ pending_at key trail taken ∷ [] → IsAboveNode search key trail taken → ArePending search trail.pairs taken.pairs trail taken entries
   waiting_starts key trail taken entries e above =
-      subst (AreWaiting search trail.pairs taken.pairs trail taken) (sym e) (record {
+      subst (ArePending search trail.pairs taken.pairs trail taken) (sym e) (record {
         due = (due_at_once key trail taken above, tt);
         rising = (omega arith, omega arith, tt);
         grows = ([], sym (append-nil trail.pairs));
@@ -139,21 +139,21 @@ module _ (search : Search) where
       })
 
   module _ (base : Pairs) (first : List (ℕ × ⊤)) (old new : Trail (Bor (List Cell))) (before after : Trail ⊤) (front : List Pending) (next : Pending) where
-    pub waiting_next : AreWaiting search base first old before (front ++ next ∷ []) → IsDue search old before next
+    pub waiting_next : ArePending search base first old before (front ++ next ∷ []) → IsDue search old before next
     waiting_next h = (all_back (IsDue search old before) front (next ∷ []) h.due).0
 
     -- the trail holds what it held at first
-    pub grown : AreWaiting search base first old before (front ++ next ∷ []) → Grows (take next.mark old.pairs) new.pairs → Grows base new.pairs
+    pub grown : ArePending search base first old before (front ++ next ∷ []) → Grows (take next.mark old.pairs) new.pairs → Grows base new.pairs
     grown h more =
         let last = rising_last (length base) (length first) front next h.rising in
         grows_still base old.pairs new.pairs next.mark h.grows last.mark (waiting_next h).mark more
 
-    pub waiting_on : (mine : List Pending) (p : Pending) (tops : List ℕ) → AreWaiting search base first old before (front ++ next ∷ []) → new.slots ≡ old.slots → after.slots ≡ before.slots → Grows (take next.mark old.pairs) new.pairs → Grows (take next.taken_mark before.pairs) after.pairs → next.mark ≤ p.mark → next.taken_mark ≤ p.taken_mark → mine ≡ front ++ like p tops → AllByRecursion (IsDue search new after) (like p tops) → AreWaiting search base first new after mine
+    pub waiting_on : (mine : List Pending) (p : Marks) (tops : List ℕ) → ArePending search base first old before (front ++ next ∷ []) → new.slots ≡ old.slots → after.slots ≡ before.slots → Grows (take next.mark old.pairs) new.pairs → Grows (take next.taken_mark before.pairs) after.pairs → next.mark ≤ p.mark → next.taken_mark ≤ p.taken_mark → mine ≡ front ++ with_marks p tops → AllByRecursion (IsDue search new after) (with_marks p tops) → ArePending search base first new after mine
     waiting_on mine p tops h e f more taken_more less taken_less pushed due =
         let last = rising_last (length base) (length first) front next h.rising in
         let is = waiting_next h in
-        subst (AreWaiting search base first new after) (sym pushed) (record {
-          due = all_append (IsDue search new after) front (like p tops)
+        subst (ArePending search base first new after) (sym pushed) (record {
+          due = all_append (IsDue search new after) front (with_marks p tops)
               (all_with (IsDue search old before) (IsBefore next.mark next.taken_mark) (IsDue search new after) front (λ q d b. stays q d b is) (all_front (IsDue search old before) front (next ∷ []) h.due) last.before) due;
           rising = rising_more (length base) (length first) p front tops last.others
               (all_weaker (IsBefore next.mark next.taken_mark) (IsBefore p.mark p.taken_mark) front (λ q b. (omega (arith, b.0, less), omega (arith, b.1, taken_less))) last.before)
@@ -181,7 +181,7 @@ module _ (search : Search) (ready : IsReady search) (top : ℕ) (front : List Pe
       (passing_over search.tree.now (legal_nodes search.tree.now ready.legal) (IsOpenAt search) top (keys_of front) next.node passed turned (none_in search ready top next.node is closed))
 
   module _ (node : Node Term) (has : HasNode search.tree.now next.node node) where
-    pub passed_on : (tops : List ℕ) → AreToVisit search next.node tops → (mine : List Pending) (p : Pending) → mine ≡ front ++ like p tops → IsOpenAt search next.node → HasPassed search.tree.now (IsOpenAt search) top (keys_of mine) (next.node ∷ passed)
+    pub passed_on : (tops : List ℕ) → AreToVisit search next.node tops → (mine : List Pending) (p : Marks) → mine ≡ front ++ with_marks p tops → IsOpenAt search next.node → HasPassed search.tree.now (IsOpenAt search) top (keys_of mine) (next.node ∷ passed)
     passed_on tops visit mine p pushed is =
         subst (λ l. HasPassed search.tree.now (IsOpenAt search) top l (next.node ∷ passed)) (sym (keys_then front mine p tops pushed))
         (passing_on search.tree.now (legal_nodes search.tree.now ready.legal) (IsOpenAt search) top (keys_of front) next.node passed tops turned is visit.distinct
@@ -204,17 +204,3 @@ module _ (search : Search) (ready : IsReady search) (top : ℕ) (front : List Pe
           length-append (keys_of front) (children_of node.content),
           keys_long front,
         )
-
--- ---- the measure
-abbrev times : ℕ → ℕ → ℕ
-times zero n = 0
-times (suc m) n = n + times m n
-
--- first that of the nodes that weren't passed, and then that of those that wait
-abbrev pub left_to_do : ℕ → ℕ → ℕ → ℕ
-left_to_do most passed waiting = times (most - passed) (most + 1) + waiting
-
-pub one_passed : (most passed old new : ℕ) → passed + 1 ≤ most → new ≤ most → left_to_do most (passed + 1) new < left_to_do most passed old
-one_passed most passed old new less few =
-    let one : most - passed ≡ suc (most - (passed + 1)) = omega (arith, less) in
-    omega (arith, few, ap (λ n. times n (most + 1)) one)

@@ -19,7 +19,7 @@ use Rattle.si_tree.specs.Reading.{IsNode, children_of, postings_of}
 use Rattle.si_descend.specs.declared.pending.Pending.{Pending}
 use Rattle.si_descend.specs.declared.search.Search.{Search}
 use Rattle.si_descend.specs.Lending.{HasRoomForAnswers}
-use Rattle.si_descend.specs.Pending.{AreWaiting, cut, HasTurned, IsDue, IsNext, Leaves, MayVisit, HasStepped, pending_at}
+use Rattle.si_descend.specs.Pending.{ArePending, cut, HasTurned, IsDue, IsNextOpen, Leaves, MayVisit, HasStepped, marks_of, pending_at}
 use Rattle.si_descend.specs.Searching.{IsReady, IsClosedAt, IsOpenAt, HasFound}
 use Rattle.si_descend.proofs.Passing.{HasPassed, passing_starts, passing_over, passed_few, next_new, apart_few}
 use Rattle.si_descend.proofs.Gathering.{HasGathered, none_in, gathered_none, gathered_more, found_in_end, gathered_fits}
@@ -96,7 +96,7 @@ module _ (search : Search) (ready : IsReady search) (top : ℕ) (old : List Post
     pub finding_none : AllByRecursion (λ p. IsClosedAt search p.node) entries → IsFinding search top [] old now n
     finding_none shut = finding_before trail taken [] entries nodes shut now n h
 
-    module _ (front : List Pending) (next : Pending) (closed : List Pending) (is : IsNext search entries front next closed) where
+    module _ (front : List Pending) (next : Pending) (closed : List Pending) (is : IsNextOpen search entries front next closed) where
       next_nodes : AllByRecursion (λ p. IsNode search.tree.now p.node) ((front ++ next ∷ []) ++ closed)
       next_nodes = subst (AllByRecursion (λ p. IsNode search.tree.now p.node)) is.are nodes
 
@@ -165,15 +165,15 @@ found_closed search ready key is old closed = finding_ends search ready key old 
   }
 
 -- ---- the trails
-module _ (search : Search) (base : Pairs) (first : List (ℕ × ⊤)) (old new : Trail (Bor (List Cell))) (before after : Trail ⊤) (front : List Pending) (next : Pending) (mine entries : List Pending) (are : entries ≡ front ++ next ∷ []) (h : AreWaiting search base first old before entries) where
+module _ (search : Search) (base : Pairs) (first : List (ℕ × ⊤)) (old new : Trail (Bor (List Cell))) (before after : Trail ⊤) (front : List Pending) (next : Pending) (mine entries : List Pending) (are : entries ≡ front ++ next ∷ []) (h : ArePending search base first old before entries) where
   module _ (e : new.slots ≡ old.slots) (f : after.slots ≡ before.slots) (more : Grows (take next.mark old.pairs) new.pairs) (taken_more : Grows (take next.taken_mark before.pairs) after.pairs) where
-    pub waiting_over : mine ≡ front → AreWaiting search base first new after mine
+    pub waiting_over : mine ≡ front → ArePending search base first new after mine
     waiting_over same =
-        waiting_on search base first old new before after front next mine next [] (subst (AreWaiting search base first old before) are h) e f more taken_more (omega arith) (omega arith) (same ∙ sym (append-nil front)) tt
+        waiting_on search base first old new before after front next mine (marks_of next) [] (subst (ArePending search base first old before) are h) e f more taken_more (omega arith) (omega arith) (same ∙ sym (append-nil front)) tt
 
-    pub waiting_more : Leaves search next new after front mine → AreWaiting search base first new after mine
+    pub waiting_more : Leaves search next new after front mine → ArePending search base first new after mine
     waiting_more leaves =
-        waiting_on search base first old new before after front next mine leaves.marks leaves.tops (subst (AreWaiting search base first old before) are h) e f more taken_more leaves.mark leaves.taken_mark leaves.pushed leaves.due
+        waiting_on search base first old new before after front next mine leaves.marks leaves.tops (subst (ArePending search base first old before) are h) e f more taken_more leaves.mark leaves.taken_mark leaves.pushed leaves.due
 
     pub waiting_grows : Grows base new.pairs
-    waiting_grows = grown search base first old new before after front next (subst (AreWaiting search base first old before) are h) more
+    waiting_grows = grown search base first old new before after front next (subst (ArePending search base first old before) are h) more

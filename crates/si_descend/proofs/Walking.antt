@@ -1,6 +1,5 @@
 -- Where all nodes below are open.
-use Rattle.std.proofs.Common.{◌≡◌, ◌≤◌, ℕ, false, true, List, [], ◌∷◌, ◌++◌, Option, None, Some, length, slice_get, append-nil, inl, inr, refl, ap, sym, ◌∙◌, subst, arith}
-use Rattle.std.specs.Option.{is_some}
+use Rattle.std.proofs.Common.{◌≡◌, ◌≤◌, ℕ, true, List, [], ◌++◌, None, Some, length, slice_get, append-nil, inl, refl, sym, ◌∙◌, subst, arith}
 use Rattle.std.specs.Bool.{⊤}
 use Rattle.std.specs.Borrow.{Bor}
 use Rattle.si_defs.specs.Substitutions.{IsAmong}
@@ -8,16 +7,14 @@ use Rattle.si_defs.proofs.ListLaws.{get_among}
 use Rattle.si_trail.specs.Trails.{Trail}
 use Rattle.si_flat.specs.declared.Cell.{Cell}
 use Rattle.si_flat.specs.Cells.{Term}
-use Rattle.si_legal.specs.Trees.{Content, inner, leaf, Node, HasNode, IsPath, path_term}
-use Rattle.si_legal.specs.Legal.{IsLegalNode, IsLegalContent}
-use Rattle.si_legal.specs.OpenNodes.{IsOpen}
+use Rattle.si_legal.specs.Trees.{Content, inner, leaf, Node, HasNode}
 use Rattle.si_legal.proofs.PathLaws.{one_node}
 use Rattle.si_tree.specs.Reading.{children_of, split_of}
 use Rattle.si_descend.specs.declared.pending.Pending.{Pending}
 use Rattle.si_descend.specs.declared.search.Search.{Search}
-use Rattle.si_descend.specs.Pending.{cut, IsDue, Leaves, MayVisit, like, pending_at}
+use Rattle.si_descend.specs.Pending.{cut, IsDue, Leaves, Marks, MayVisit, marks_of, with_marks, pending_at}
 use Rattle.si_descend.specs.Searching.{IsReady, IsOpenAt, AreOpenBelow}
-use Rattle.si_descend.proofs.Below.{IsChildOf, passes_child, child_passes, passes_first}
+use Rattle.si_descend.proofs.Below.{IsChildOf, child_passes, passes_first}
 use Rattle.si_descend.proofs.PendingLaws.{all_at_once}
 use Rattle.si_descend.proofs.Visiting.{siblings}
 
@@ -35,27 +32,12 @@ leaf_bare (inner split children) e = absurd (by e) where
   by : Some split ≡ None → ⊥
   by p = cc
 
--- below a leaf there is no other node
-pub leaf_below : (search : Search) → IsReady search → (key : ℕ) (node : Node Term) → HasNode search.tree.now key node → (o : Option ℕ) → o ≡ split_of node.content → is_some o ≡ false → IsOpenAt search key → AreOpenBelow search key
-leaf_below search ready key node has o is none here q low path stands reached passes =
-    elim (passes_child search.tree.now (Some low) path key reached passes) as (λ _. IsOpen search.relation q (path_term path)) [
-      | inl e ↦ here q path stands (subst (λ k. IsPath search.tree.now k path) e reached)
-      | inr h ↦ absurd (no_child (ready.legal.nodes key node has) node.content refl h.0 h.1)
-    ]
-  where
-    bad : false ≡ true → ⊥
-    bad e = cc
-
-    no_child : IsLegalNode search.tree.now key node → (c : Content) → node.content ≡ c → (child : ℕ) → IsChildOf search.tree.now key child → ⊥
-    no_child legal (inner split children) e child down = bad (sym none ∙ ap is_some (is ∙ ap split_of e))
-    no_child legal (leaf ps) e child down = ((subst (IsLegalContent search.tree.now key ((key, node) ∷ legal.above)) e legal.content).0 child).1 down
-
 pub child_at : (search : Search) (ready : IsReady search) (key : ℕ) (node : Node Term) (has : HasNode search.tree.now key node) (children : List ℕ) → children ≡ children_of node.content → (place child : ℕ) → slice_get children place ≡ Some child → IsChildOf search.tree.now key child
 child_at search ready key node has children are place child e = (siblings search ready key node has).are child (subst (λ l. IsAmong l child) are (get_among children place child e))
 
 module _ (search : Search) (ready : IsReady search) (next : Pending) (node : Node Term) (has : HasNode search.tree.now next.node node) (trail : Trail (Bor (List Cell))) (taken : Trail ⊤) (old new : List Pending) where
   -- all children are left
-  pub leaves_all : AreOpenBelow search next.node → (marks : Pending) → next.mark ≤ marks.mark → next.taken_mark ≤ marks.taken_mark → marks.mark ≤ length trail.pairs → marks.taken_mark ≤ length taken.pairs → marks.whole ≡ true → new ≡ old ++ like marks (children_of node.content) → Leaves search next trail taken old new
+  pub leaves_all : AreOpenBelow search next.node → (marks : Marks) → next.mark ≤ marks.mark → next.taken_mark ≤ marks.taken_mark → marks.mark ≤ length trail.pairs → marks.taken_mark ≤ length taken.pairs → marks.whole ≡ true → new ≡ old ++ with_marks marks (children_of node.content) → Leaves search next trail taken old new
   leaves_all all marks above taken_above within taken_within whole pushed = record {
     tops = children_of node.content;
     marks = marks;
@@ -78,7 +60,7 @@ module _ (search : Search) (ready : IsReady search) (next : Pending) (node : Nod
   pub leaves_none : split_of node.content ≡ None → new ≡ old → Leaves search next trail taken old new
   leaves_none bare same = record {
     tops = [];
-    marks = next;
+    marks = marks_of next;
     visit = record {
       distinct = tt;
       within = λ n has' child a. absurd a;

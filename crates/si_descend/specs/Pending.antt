@@ -47,20 +47,29 @@ pub record AreToVisit (search : Search) (key : ℕ) (tops : List ℕ) : Type 0 w
   pub others : AtNode search.tree.now key (λ n. (child : ℕ) → IsAmong (children_of n.content) child
       → IsAmong tops child ⊎ IsClosedAt search child)
 
--- these nodes, with the marks of this one
-abbrev pub like : Pending → List ℕ → List Pending
-like p tops = map (λ key.
-    record { node = key; mark = p.mark; taken_mark = p.taken_mark; whole = p.whole }) tops
+-- how much was bound above a node, and whether all nodes below it and at it are known to be open
+pub record Marks : Type 0 where
+  pub mark : ℕ
+  pub taken_mark : ℕ
+  pub whole : Bool
+
+abbrev pub marks_of : Pending → Marks
+marks_of p = record { mark = p.mark; taken_mark = p.taken_mark; whole = p.whole }
+
+-- these nodes, with these marks
+abbrev pub with_marks : Marks → List ℕ → List Pending
+with_marks m tops = map (λ key.
+    record { node = key; mark = m.mark; taken_mark = m.taken_mark; whole = m.whole }) tops
 
 -- those are put after the nodes that were pending, with marks that are no less than those of the
 -- node
 pub record Leaves (search : Search) (next : Pending) (trail : Trail (Bor (List Cell)))
     (taken : Trail ⊤) (old new : List Pending) : Type 0 where
   pub tops : List ℕ
-  pub marks : Pending
+  pub marks : Marks
   pub visit : AreToVisit search next.node tops
-  pub pushed : new ≡ old ++ like marks tops
-  pub due : AllByRecursion (IsDue search trail taken) (like marks tops)
+  pub pushed : new ≡ old ++ with_marks marks tops
+  pub due : AllByRecursion (IsDue search trail taken) (with_marks marks tops)
   pub mark : next.mark ≤ marks.mark
   pub taken_mark : next.taken_mark ≤ marks.taken_mark
 
@@ -81,7 +90,7 @@ IsRisingFrom mark taken_mark (p ∷ ps) =
 
 -- all that wait are as they were when they were put there, and the trails hold what they held at
 -- first
-pub record AreWaiting (search : Search) (base : Pairs) (first : List (ℕ × ⊤))
+pub record ArePending (search : Search) (base : Pairs) (first : List (ℕ × ⊤))
     (trail : Trail (Bor (List Cell))) (taken : Trail ⊤) (entries : List Pending) : Type 0 where
   pub due : AllByRecursion (IsDue search trail taken) entries
   pub rising : IsRisingFrom (length base) (length first) entries
@@ -89,7 +98,7 @@ pub record AreWaiting (search : Search) (base : Pairs) (first : List (ℕ × ⊤
   pub taken_grows : Grows first taken.pairs
 
 -- those that come after this one are closed
-pub record IsNext (search : Search) (entries front : List Pending) (next : Pending)
+pub record IsNextOpen (search : Search) (entries front : List Pending) (next : Pending)
     (closed : List Pending) : Type 0 where
   pub are : entries ≡ (front ++ next ∷ []) ++ closed
   pub closed_are : AllByRecursion (λ p. IsClosedAt search p.node) closed
@@ -100,7 +109,7 @@ pub record HasTurned (search : Search) (key : ℕ) (trail : Trail (Bor (List Cel
   pub front : List Pending
   pub next : Pending
   pub closed : List Pending
-  pub is : IsNext search old front next closed
+  pub is : IsNextOpen search old front next closed
   pub node : next.node ≡ key
   pub stepped : HasStepped search next trail taken front new true
 
@@ -118,7 +127,7 @@ pub record LacksTurn {A : Type 0} (search : Search) (pairs : Pairs) (room : Solv
   pub front : List Pending
   pub next : Pending
   pub closed : List Pending
-  pub is : IsNext search pending.items front next closed
+  pub is : IsNextOpen search pending.items front next closed
   pub lack : AtNode search.tree.now next.node (λ node. (n : ℕ)
       → IsEnoughForTree n search.tree.now search.slots pairs room
       → length front + length (children_of node.content) ≤ vec_capacity pending → ⊥)

@@ -267,8 +267,8 @@ fn length_of(cells: &[Cell]) -> u32
     }
 }
 
-// The same, but that variables may stay taken and bindings be left and, where memory runs out,
-// postings and pending nodes too.
+// As [`descend_with`], but that variables may stay taken and bindings be left and, where memory
+// runs out, postings and pending nodes too.
 fn search_below<'a>(
     search: &Search<'a>,
     node: NodeId,

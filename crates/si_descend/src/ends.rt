@@ -1,5 +1,5 @@
 // Where the indicators that are open at a node end, and whether they can be anything there.
-ghost use Rattle.std.specs.Prelude.{◌≡◌, ◌↔◌, ◌<◌, [], ◌∷◌, ◌++◌, IfSome, IsTrue, false, length, List, ℕ};
+ghost use Rattle.std.specs.Prelude.{◌≡◌, ◌↔◌, ◌<◌, [], ◌∷◌, ◌++◌, IfSome, IsFalse, IsTrue, false, length, List, ℕ};
 ghost use Rattle.std.specs.List.{AllByRecursion};
 ghost use Rattle.si_defs.specs.Substitutions.{IsAmong};
 ghost use Rattle.si_trail.specs.Trails.{HasDistinctSlots};
@@ -21,37 +21,39 @@ use si_tree::NodeId;
 use si_unify::Slots;
 use std::marker::Model;
 
+// The most ends that are looked for, and the most nodes that are gone down for them.
+const MOST: usize = 16;
+
 /// The slots at which indicators end.
 #[derive(Drop)]
 pub(crate) struct Ends {
     count: usize,
-    slots: [usize; 16],
+    slots: [usize; MOST],
 }
 
 impl Model for Ends {
     ghost use Rattle.std.specs.Prelude.{◌≤◌, List, ℕ, take};
+    ghost use Rattle.si_descend.specs.declared.ends.TheConstants.{MOST};
 
     ghost Value = { List ℕ };
 
     ghost view = { λ e. take e.count e.slots };
 
-    ghost invariant = { λ e. e.count ≤ 16 };
+    ghost invariant = { λ e. e.count ≤ MOST };
 }
 
 impl Ends {
-    /// The most slots.
-    const MOST: usize = 16;
-
     /// No ends.
     pub(crate) fn new() -> Ends
         ensures { result ≡ [] }
     {
         Ends {
             count: 0,
-            slots: [0; Ends::MOST],
+            slots: [0; MOST],
         }
     }
 
+    // Whether the slot is one of them.
     fn has(&self, slot: usize) -> bool
         ensures { IsTrue result ↔ IsAmong self.now slot }
     {
@@ -62,8 +64,9 @@ impl Ends {
     fn add(&mut self, slot: usize) -> bool
         ensures new { IsTrue result → IsAmong self.old slot → ⊥ }
         ensures added { IsTrue result → self.new ≡ self.old ++ slot ∷ [] }
+        ensures same { IsFalse result → self.new ≡ self.old }
     {
-        if self.count == Ends::MOST || self.has(slot) {
+        if self.count == MOST || self.has(slot) {
             return false;
         }
         self.slots[self.count] = slot;
@@ -91,7 +94,7 @@ pub(crate) fn find_ends_below<'a>(
         × AreEndsOf search.now.slots trail.now.pairs ns ends.new) }
 {
     let mut at = node;
-    for _ in 0..Ends::MOST {
+    for _ in 0..MOST {
         if search.tree.split(at).is_none() {
             return true;
         }
@@ -154,7 +157,7 @@ fn free_end<'a>(trail: &Trail<&'a [Cell]>, slots: &Slots, indicator: &'a [Cell])
 #[inline(always)]
 pub(crate) fn are_clear(trail: &Trail<&[Cell]>, slots: &Slots, ends: &Ends) -> bool
     requires solving { AllowsSolving slots.now trail.now.pairs trail.now.slots }
-    ensures clear { IsTrue result → AreClear slots.now trail.now.pairs ends.now }
+    ensures clear { IsTrue result ↔ AreClear slots.now trail.now.pairs ends.now }
     ensures distinct { HasDistinctSlots trail.now.pairs }
 {
     let count = trail.mark();
@@ -173,7 +176,7 @@ pub(crate) fn are_clear(trail: &Trail<&[Cell]>, slots: &Slots, ends: &Ends) -> b
 fn is_clear_at(trail: &Trail<&[Cell]>, slots: &Slots, ends: &Ends, n: usize) -> bool
     requires distinct { HasDistinctSlots trail.now.pairs }
     requires within { n < length trail.now.pairs }
-    ensures { IsTrue result → HasClearValue slots.now trail.now.pairs ends.now n }
+    ensures { IsTrue result ↔ HasClearValue slots.now trail.now.pairs ends.now n }
 {
     let slot = trail.slot(n);
     if !slots.is_entry_slot(slot) {
@@ -185,6 +188,7 @@ fn is_clear_at(trail: &Trail<&[Cell]>, slots: &Slots, ends: &Ends, n: usize) -> 
     are_clear_cells(trail, slots, ends, value)
 }
 
+// Whether each cell is a symbol's or an unbound variable's that is none of the ends.
 fn are_clear_cells(trail: &Trail<&[Cell]>, slots: &Slots, ends: &Ends, cells: &[Cell]) -> bool
     ensures { IsTrue result ↔ AllByRecursion (λ c. IsClear trail.now.pairs ends.now
         (cell_slot slots.now c)) cells.now }
@@ -192,6 +196,7 @@ fn are_clear_cells(trail: &Trail<&[Cell]>, slots: &Slots, ends: &Ends, cells: &[
     cells.iter().all(|cell| is_clear(trail, slots, ends, *cell))
 }
 
+// Whether that is so of one cell.
 fn is_clear(trail: &Trail<&[Cell]>, slots: &Slots, ends: &Ends, cell: Cell) -> bool
     ensures { IsTrue result ↔ IsClear trail.now.pairs ends.now (cell_slot slots.now cell) }
 {

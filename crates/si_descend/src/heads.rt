@@ -92,11 +92,11 @@ fn clash(relation: Relation, slots: &Slots, first: Cell, head: Head) -> bool
         Head::Sym { .. } => match first {
             Cell::Query(_) => slots.freeze_query,
             Cell::Entry(_) => slots.freeze_entry,
-            _ => false,
+            Cell::Ind(_) | Cell::App { .. } => false,
         },
         Head::Var(n) => match first {
             Cell::Entry(m) => m != n && slots.freeze_entry,
-            _ => false,
+            Cell::Query(_) | Cell::Ind(_) | Cell::App { .. } => false,
         },
     }
 }

@@ -1,4 +1,4 @@
-// The nodes that a search is still to visit, and one step of it.
+// The nodes that a search is still to visit, and the way to the next open one.
 ghost use Rattle.std.specs.Prelude.{◌≡◌, ◌+◌, ◌++◌, ◌≤◌, ◌<◌, IfOk, OnErr, OnOk, length, take, vec_capacity, vec_len, List, ⊤, ℕ};
 ghost use Rattle.si_defs.specs.Substitutions.{Grows};
 ghost use Rattle.si_tree.specs.Reading.{AtNode, IsNode, children_of};
@@ -6,7 +6,7 @@ ghost use Rattle.si_unify.specs.Rooms.{AreNoLongerThan, IsNoLessRoom};
 ghost use Rattle.si_descend.specs.Attempts.{wanted_of, AreAttempts};
 ghost use Rattle.si_descend.specs.Heads.{IsWanted};
 ghost use Rattle.si_descend.specs.Lending.{IsEnoughForTree};
-ghost use Rattle.si_descend.specs.Pending.{like, pending_at, AreWaiting, HasStepped, HasTurnedTo, IsDue, LacksTurn, Leaves};
+ghost use Rattle.si_descend.specs.Pending.{marks_of, pending_at, with_marks, ArePending, HasStepped, HasTurnedTo, IsDue, LacksTurn, Leaves};
 ghost use Rattle.si_unify.specs.Solving.{Pairs};
 ghost use Rattle.si_descend.specs.Searching.{IsAtNode, IsOpenAt, IsReady};
 
@@ -60,14 +60,14 @@ pub(crate) fn next_open<'a>(
 ) -> Result<Option<NodeId>, AllocError>
     requires ready { IsReady search.now }
     requires waiting { (base : Pairs) × (first : List (ℕ × ⊤))
-        × AreWaiting search.now base first trail.old taken.old pending.old.items }
+        × ArePending search.now base first trail.old taken.old pending.old.items }
     ensures turns { IfOk result (HasTurnedTo search.now trail.new taken.new
         pending.old.items pending.new.items) }
     ensures waiting { OnOk result ((base : Pairs) (first : List (ℕ × ⊤))
-        → AreWaiting search.now base first trail.old taken.old pending.old.items
-        → AreWaiting search.now base first trail.new taken.new pending.new.items) }
+        → ArePending search.now base first trail.old taken.old pending.old.items
+        → ArePending search.now base first trail.new taken.new pending.new.items) }
     ensures grows { (base : Pairs) (first : List (ℕ × ⊤))
-        → AreWaiting search.now base first trail.old taken.old pending.old.items
+        → ArePending search.now base first trail.old taken.old pending.old.items
         → Grows base trail.new.pairs }
     ensures slots { trail.new.slots ≡ trail.old.slots }
     ensures taken_slots { taken.new.slots ≡ taken.old.slots }
@@ -161,7 +161,7 @@ fn push_open<'a>(
         return push_all(search, here, pending);
     }
     let attempts = attempts_at(search, node, wanted);
-    // So there is a loop for each way, which doesn't ask at each place which it is.
+    // One call for each way: inlined, its loop needn't ask at each place which way it is.
     match attempts {
         Attempts::InOrder(_) => push_tried(search, node, attempts, trail, taken, pending),
         Attempts::ByHeads(_) => push_tried(search, node, attempts, trail, taken, pending),
@@ -177,7 +177,8 @@ fn push_all(
 ) -> Result<(), AllocError>
     requires { IsNode search.now.tree.now here.node }
     ensures pushes { OnOk result (AtNode search.now.tree.now here.node (λ n.
-        pending.new.items ≡ pending.old.items ++ like here (children_of n.content))) }
+        pending.new.items ≡ pending.old.items
+        ++ with_marks (marks_of here) (children_of n.content))) }
     ensures full { OnErr result (AtNode search.now.tree.now here.node (λ n. vec_capacity pending.old
         < vec_len pending.old + length (children_of n.content))) }
     ensures room { vec_capacity pending.old ≤ vec_capacity pending.new }

@@ -12,9 +12,8 @@ use si_flat::Cell;
 use si_trail::Trail;
 use si_tree::NodeId;
 
-/// Whether all nodes below an open node are known to be open: it is a leaf, or instances or
-/// unifiable terms are sought, and all open indicators stand for different variables of which
-/// nothing else is known.
+/// Whether all nodes below an open node are known to be open: instances or unifiable terms are
+/// sought, and all open indicators stand for different variables of which nothing else is known.
 #[inline(always)]
 pub(crate) fn is_open_below<'a>(
     search: &Search<'a>,
@@ -29,9 +28,6 @@ pub(crate) fn is_open_below<'a>(
     requires opened { IsOpenAt search.now node }
     ensures { IsTrue result → AreOpenBelow search.now node }
 {
-    let Some(_) = search.tree.split(node) else {
-        return true;
-    };
     if search.slots.freeze_query || has_symbol(wanted) {
         return false;
     }

@@ -1,11 +1,10 @@
-use Rattle.std.proofs.Common.{◌≡◌, ◌+◌, [], ◌∷◌, ◌++◌, length, refl, ap, ◌∙◌, subst, arith}
-use Rattle.si_legal.specs.Counts.{node_count}
+use Rattle.std.proofs.Common.{◌≡◌, ◌+◌, [], ◌∷◌, ◌++◌, refl, ap, ◌∙◌, subst, arith}
 use Rattle.si_tree.specs.Reading.{IsNode}
 use Rattle.si_descend.specs.declared.pending.Pending.{Pending}
 use Rattle.si_descend.specs.Pending.{pending_at, HasTurned, HasTurnedTo}
 use Rattle.si_descend.proofs.CountLaws.{more_counted, none_counted}
-use Rattle.si_descend.proofs.PendingLaws.{one_passed, waiting_starts}
-use Rattle.si_descend.proofs.Turns.{finding_starts, finding_none, finding_turned, turned_node, finding_few, finding_short, finding_small, finding_ends}
+use Rattle.si_descend.proofs.PendingLaws.{waiting_starts}
+use Rattle.si_descend.proofs.Turns.{finding_starts, finding_none, finding_turned, turned_node, finding_few, finding_small, finding_ends}
 use Rattle.si_descend.proofs.counting.count_all.Goals as goal
 
 pub loop-open-init : goal.loop-open-init
@@ -33,8 +32,7 @@ pub loop-open-smaller : goal.loop-open-smaller
 loop-open-smaller c =
     let turned : HasTurned c.args.search.now c.in-Some.open c.next_open.new.trail c.next_open.new.taken c.loop-open.pending.items c.next_open.new.pending.items = subst (HasTurnedTo c.args.search.now c.next_open.new.trail c.next_open.new.taken c.loop-open.pending.items c.next_open.new.pending.items) c.in-Some.is c.in_ok-open.ensures.turns in
     let turn = finding_turned c.args.search.now c.requires.above.searching.ready c.args.node [] c.loop-open.trail c.loop-open.taken c.loop-open.pending.items c.loop-open.invariant.1.due c.loop-open.invariant.0.0 c.loop-open.passed c.loop-open.invariant.0.1 c.in-Some.open c.next_open.new.trail c.next_open.new.taken c.next_open.new.pending.items turned _ _ refl refl in
-    one_passed (node_count c.args.search.now.tree.now) c.loop-open.passed (length c.loop-open.pending.items) (length c.next_open.new.pending.items)
-    (finding_few c.args.search.now c.requires.above.searching.ready c.args.node [] c.next_open.new.pending.items _ (c.loop-open.passed + 1) turn) (finding_short c.args.search.now c.requires.above.searching.ready c.args.node [] c.next_open.new.pending.items _ (c.loop-open.passed + 1) turn)
+    omega (arith, finding_few c.args.search.now c.requires.above.searching.ready c.args.node [] c.next_open.new.pending.items _ (c.loop-open.passed + 1) turn)
 
 pub loop-open-preserved : goal.loop-open-preserved
 loop-open-preserved c =

@@ -3,7 +3,7 @@ use Rattle.std.specs.Prelude.{vec_len}
 use Rattle.std.proofs.lemmas.List.{take_all, take_more}
 use Rattle.si_term.proofs.Results.{on_err}
 use Rattle.si_tree.specs.Reading.{AtNode, children_of}
-use Rattle.si_descend.specs.Pending.{like}
+use Rattle.si_descend.specs.Pending.{marks_of, with_marks}
 use Rattle.si_descend.proofs.PendingLaws.{one_pending_more}
 use Rattle.si_descend.proofs.pending.push_all.Goals as goal
 
@@ -18,8 +18,8 @@ push_reserved-requires c = omega (arith, c.loop-child.invariant.2, c.loop-child-
 
 pub loop-child-preserved : goal.loop-child-preserved
 loop-child-preserved c = (
-  one_pending_more c.args.pending.now.items c.loop-child.pending.items c.push_reserved.new.self.items c.args.here (take c.loop-child.child-index c.children-children.result.now) c.child-item.result c.loop-child.invariant.0 c.push_reserved.ensures.items
-      ∙ ap (λ l. c.args.pending.now.items ++ like c.args.here l) (sym (take_more c.children-children.result.now c.loop-child.child-index c.child-item.result c.loop-child-test.true ∙ ap (λ k. take c.loop-child.child-index c.children-children.result.now ++ k ∷ []) (sym c.child-item.is))),
+  one_pending_more c.args.pending.now.items c.loop-child.pending.items c.push_reserved.new.self.items (marks_of c.args.here) (take c.loop-child.child-index c.children-children.result.now) c.child-item.result c.loop-child.invariant.0 c.push_reserved.ensures.items
+      ∙ ap (λ l. c.args.pending.now.items ++ with_marks (marks_of c.args.here) l) (sym (take_more c.children-children.result.now c.loop-child.child-index c.child-item.result c.loop-child-test.true ∙ ap (λ k. take c.loop-child.child-index c.children-children.result.now ++ k ∷ []) (sym c.child-item.is))),
   omega (arith, c.loop-child.invariant.1, c.push_reserved.ensures.capacity),
   omega (arith, c.loop-child.invariant.2, c.push_reserved.ensures.capacity, c.push_reserved.ensures.len, c.loop-child-test.true),
 )
@@ -33,7 +33,7 @@ returns-in_err-reserve-clause-full c =
 pub returns-clause-pushes : goal.returns-clause-pushes
 returns-clause-pushes c node has =
     c.loop-child.invariant.0
-    ∙ ap (λ l. c.args.pending.now.items ++ like c.args.here l) (take_all c.loop-child.child-index c.children-children.result.now (omega (arith, c.loop-child-test.false)) ∙ c.children-children.ensures node has)
+    ∙ ap (λ l. c.args.pending.now.items ++ with_marks (marks_of c.args.here) l) (take_all c.loop-child.child-index c.children-children.result.now (omega (arith, c.loop-child-test.false)) ∙ c.children-children.ensures node has)
 
 pub returns-clause-room : goal.returns-clause-room
 returns-clause-room c = c.loop-child.invariant.1

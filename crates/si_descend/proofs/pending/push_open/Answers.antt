@@ -2,7 +2,7 @@ use Rattle.std.proofs.Common.{true, refl, sym, ap, ◌∙◌, subst, arith}
 use Rattle.std.proofs.lemmas.Result.{on_ok_weaker}
 use Rattle.si_legal.specs.Trees.{HasNode}
 use Rattle.si_descend.specs.declared.pending.Pending.{Pending}
-use Rattle.si_descend.specs.Pending.{pending_at}
+use Rattle.si_descend.specs.Pending.{marks_of, pending_at}
 use Rattle.si_descend.specs.Searching.{AreOpenBelow}
 use Rattle.si_descend.proofs.AttemptLaws.{splits_by}
 use Rattle.si_descend.proofs.Walking.{leaves_all, leaves_none}
@@ -20,7 +20,7 @@ returns-then-is_open_below-clause-leaves c =
     let open_below : AreOpenBelow c.args.search.now c.args.node = c.is_open_below.ensures c.if-is_open_below.true in
     let same : HasNode c.args.search.now.tree.now here.node node.0 = subst (λ k. HasNode c.args.search.now.tree.now k node.0) (sym (ap (λ p. p.node) c.at.ensures)) node.1 in
     on_ok_weaker c.push_all.result
-    (λ pushes. leaves_all c.args.search.now c.requires.there.searching.ready (pending_at c.args.node c.args.trail.now c.args.taken.now) node.0 node.1 c.args.trail.now c.args.taken.now c.args.pending.now.items c.push_all.new.pending.items open_below here
+    (λ pushes. leaves_all c.args.search.now c.requires.there.searching.ready (pending_at c.args.node c.args.trail.now c.args.taken.now) node.0 node.1 c.args.trail.now c.args.taken.now c.args.pending.now.items c.push_all.new.pending.items open_below (marks_of here)
     (omega (arith, ap (λ p. p.mark) c.at.ensures)) (omega (arith, ap (λ p. p.taken_mark) c.at.ensures)) (omega (arith, ap (λ p. p.mark) c.at.ensures)) (omega (arith, ap (λ p. p.taken_mark) c.at.ensures)) refl (pushes node.0 same))
     c.push_all.ensures.pushes
 

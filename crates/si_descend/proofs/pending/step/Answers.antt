@@ -4,7 +4,7 @@ use Rattle.si_defs.specs.Substitutions.{Grows}
 use Rattle.si_term.proofs.Results.{on_err}
 use Rattle.si_tree.specs.Reading.{AtNode, IsNode, children_of}
 use Rattle.si_descend.specs.Lending.{IsEnoughForTree}
-use Rattle.si_descend.specs.Pending.{cut, MayVisit}
+use Rattle.si_descend.specs.Pending.{cut, marks_of, MayVisit}
 use Rattle.si_descend.specs.Searching.{AreOpenBelow, HasEntered}
 use Rattle.si_descend.proofs.EnoughLaws.{enough_cut}
 use Rattle.si_descend.proofs.PendingLaws.{grows_cut, no_shorter}
@@ -21,7 +21,7 @@ returns-then-next-clause-steps c =
     let node : IsNode c.args.search.now.tree.now c.args.next.node = may.0 in
     let open_below : AreOpenBelow c.args.search.now c.args.next.node = may.1 in (
       open_at c.args.search.now c.args.next.node open_below,
-      leaves_all c.args.search.now c.requires.ready c.args.next node.0 node.1 c.args.trail.now c.args.taken.now c.args.pending.now.items c.push_all.new.pending.items open_below c.args.next (omega arith) (omega arith) c.requires.due.mark c.requires.due.taken_mark c.if-next.true
+      leaves_all c.args.search.now c.requires.ready c.args.next node.0 node.1 c.args.trail.now c.args.taken.now c.args.pending.now.items c.push_all.new.pending.items open_below (marks_of c.args.next) (omega arith) (omega arith) c.requires.due.mark c.requires.due.taken_mark c.if-next.true
           (c.in_ok-push_all.ensures.pushes node.0 node.1),
     )
 

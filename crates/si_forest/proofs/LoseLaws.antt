@@ -1,5 +1,5 @@
 -- The postings of a clause go, one after the other.
-use Rattle.std.proofs.Common.{◌≡◌, ◌≢◌, ◌↔◌, inl, inr, ℕ, ◌+◌, ◌<◌, ◌≤◌, Bool, List, length, Some, slice_get, sym, ◌∙◌, ap, subst, arith}
+use Rattle.std.proofs.Common.{◌≡◌, ◌≢◌, ◌↔◌, inl, inr, ℕ, ◌+◌, ◌<◌, ◌≤◌, Bool, List, length, Some, slice_get, suc, refl, sym, ◌∙◌, ap, subst, arith}
 use Rattle.std.proofs.lemmas.Bool.Decides.{eqb_tells}
 use Rattle.std.proofs.lemmas.Option.{same_Some, slice_get_within}
 use Rattle.si_flat.specs.Cells.{Term}
@@ -8,7 +8,7 @@ use Rattle.si_legal.specs.Trees.{StandsIn}
 use Rattle.si_legal.specs.StoredSets.{IsUnder}
 use Rattle.si_held.specs.TwoTrees.{TwoTrees, tree_for, AreLegal, IsNewKey}
 use Rattle.si_forest.specs.Locations.{Location}
-use Rattle.si_forest.specs.Pairs.{LoseOne, ChangeOnly}
+use Rattle.si_forest.specs.Pairs.{LoseFirst, LoseOne, ChangeOnly}
 use Rattle.si_forest.specs.Locations.{posting_of, location, AreLocated}
 use Rattle.si_forest.proofs.TreeLaws.{lose_legal, lose_stored, lose_keeps}
 
@@ -23,12 +23,14 @@ pub record AreGone (key n : ℕ) (old new : TwoTrees) : Type 0 where
       → IsUnder (tree_for literal new) t p ↔ (IsUnder (tree_for literal old) t p × IsLeft key n p)
   pub keep : (literal : Bool) (leaf : ℕ) (t : Term) (p : Posting) → IsLeft key n p
       → StandsIn (tree_for literal old) leaf t p → StandsIn (tree_for literal new) leaf t p
+  pub first : LoseFirst key n old new
 
 pub gone_start : (key : ℕ) (trees : TwoTrees) → AreLegal trees → AreGone key 0 trees trees
 gone_start key trees legal = record {
   legal = legal;
   stored = λ literal t p. ((λ h. (h, λ e. omega arith)), λ h. h.0);
   keep = λ literal leaf t p still stands. stands;
+  first = refl;
 }
 
 -- the next one stands where it stood
@@ -40,14 +42,17 @@ still_stands key n locations at old now located e gone =
 pub same_posting : (key n : ℕ) (p : Posting) → p.clause ≡ key → p.entry ≡ n → p ≡ posting_of key n
 same_posting key n p e f = λ i. record { clause = e i; entry = f i }
 
-pub gone_more : (key n : ℕ) (locations : List Location) (at : Location) (old now new : TwoTrees) → AreLocated key locations old → slice_get locations n ≡ Some at → AreGone key n old now → LoseOne now new at.literal (posting_of key n) → AreGone key (n + 1) old new
+pub gone_more : (key n : ℕ) (locations : List Location) (at : Location) (old now new : TwoTrees) → AreLocated key locations old → slice_get locations n ≡ Some at → AreGone key n old now → LoseOne now new at.literal (posting_of key n) at.leaf → AreGone key (n + 1) old new
 gone_more key n locations at old now new located e gone lose = record {
-  legal = lose_legal now new at.literal (posting_of key n) lose gone.legal;
+  legal = lose_legal now new at.literal (posting_of key n) at.leaf lose gone.legal;
   stored = λ literal t p. (forth literal t p, back literal t p);
   keep = λ literal leaf t p still stands.
-      lose_keeps now new at.literal (posting_of key n) lose literal leaf t p
+      lose_keeps now new at.literal (posting_of key n) at.leaf lose literal leaf t p
       (gone.keep literal leaf t p (before p still) stands)
       (back literal t p ((leaf, stands), still));
+  first =
+      let one : suc n ≡ n + 1 = omega arith in
+      subst (λ m. LoseFirst key m old new) one (now, at.literal, at.leaf, gone.first, lose);
 } where
   before : (p : Posting) → IsLeft key (n + 1) p → IsLeft key n p
   before p still same = let more : n + 1 ≤ p.entry = still same in omega arith
@@ -67,7 +72,7 @@ gone_more key n locations at old now new located e gone lose = record {
 
   forth : (literal : Bool) (t : Term) (p : Posting) → IsUnder (tree_for literal new) t p → IsUnder (tree_for literal old) t p × IsLeft key (n + 1) p
   forth literal t p h =
-      let l = (lose_stored now new at.literal (posting_of key n) lose literal t p).0 h in
+      let l = (lose_stored now new at.literal (posting_of key n) at.leaf lose literal t p).0 h in
       let g = (gone.stored literal t p).0 l.0 in
       (g.0, after literal t p g.0 g.1 l.1)
 
@@ -78,7 +83,7 @@ gone_more key n locations at old now new located e gone lose = record {
       omega arith
 
   back : (literal : Bool) (t : Term) (p : Posting) → IsUnder (tree_for literal old) t p × IsLeft key (n + 1) p → IsUnder (tree_for literal new) t p
-  back literal t p h = (lose_stored now new at.literal (posting_of key n) lose literal t p).1 ((gone.stored literal t p).1 (h.0, before p h.1), λ f same. again p h.1 same)
+  back literal t p h = (lose_stored now new at.literal (posting_of key n) at.leaf lose literal t p).1 ((gone.stored literal t p).1 (h.0, before p h.1), λ f same. again p h.1 same)
 
 -- ---- all are gone
 pub gone_change : (key n : ℕ) (old new : TwoTrees) → AreGone key n old new → ChangeOnly key old new

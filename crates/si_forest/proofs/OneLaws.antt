@@ -106,9 +106,10 @@ kept old new legal k = record {
   keeps = k.1;
 }
 
-pub removed : (old new : Tree Term) (key : ℕ) (t : Term) (p : Posting) → IsLegal old → IsLegal new → StandsIn old key t p → Removes old new key p → LosesOne old new p
+pub removed : (old new : Tree Term) (key : ℕ) (t : Term) (p : Posting) → IsLegal old → IsLegal new → StandsIn old key t p → Removes old new key p → LosesOne old new p key
 removed old new key t p legal legal_new stands r = record {
   legal = legal_new;
+  stood = (t, stands);
   stored = loses_one old new key t p legal legal_new stands (r.loses t stands.0 stands.1);
-  keeps = r.keeps;
+  removes = r;
 }

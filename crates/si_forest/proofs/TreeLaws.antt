@@ -46,7 +46,7 @@ stay_by old new literal legal here other = both_kinds KeepsTree old new literal 
 
 -- ---- one posting
 -- that came and went again
-pub came_and_went : (old mid new : TwoTrees) (literal : Bool) (t : Term) (p : Posting) (leaf : ℕ) → AreLegal old → ((u : Term) → IsUnder (tree_for literal old) u p → ⊥) → GainOne old mid literal t p leaf → LoseOne mid new literal p → StayStored old new
+pub came_and_went : (old mid new : TwoTrees) (literal : Bool) (t : Term) (p : Posting) (leaf : ℕ) → AreLegal old → ((u : Term) → IsUnder (tree_for literal old) u p → ⊥) → GainOne old mid literal t p leaf → LoseOne mid new literal p leaf → StayStored old new
 came_and_went old mid new literal t p leaf legal none g l = stay_by old new literal legal here (l.other ∙ g.other) where
   forth : (u : Term) (q : Posting) → IsUnder (tree_for literal new) u q → IsUnder (tree_for literal old) u q
   forth u q h =
@@ -60,7 +60,7 @@ came_and_went old mid new literal t p leaf legal none g l = stay_by old new lite
   here = record {
     legal = l.here.legal;
     stored = λ u q. (forth u q, back u q);
-    keeps = λ k u q stands under. l.here.keeps k u q (g.here.keeps k u q stands ((l.here.stored u q).0 under).0) under;
+    keeps = λ k u q stands under. l.here.removes.keeps k u q (g.here.keeps k u q stands ((l.here.stored u q).0 under).0) under;
   }
 
 module _ (old new : TwoTrees) (literal : Bool) (p : Posting) where
@@ -92,7 +92,7 @@ module _ (old new : TwoTrees) (literal : Bool) (p : Posting) where
     pub gain_keeps : (kind : Bool) → KeepsLeaves (tree_for kind old) (tree_for kind new)
     gain_keeps = both_kinds KeepsLeaves old new literal g.here.keeps g.other (λ k u q stands under. stands)
 
-  module _ (l : LoseOne old new literal p) where
+  module _ (leaf : ℕ) (l : LoseOne old new literal p leaf) where
     pub lose_legal : AreLegal old → AreLegal new
     lose_legal legal = (by true, by false) where
       by : (kind : Bool) → IsLegal (tree_for kind new)
@@ -114,4 +114,4 @@ module _ (old new : TwoTrees) (literal : Bool) (p : Posting) where
           back h = (l.here.stored u q).1 (h.0, h.1 refl)
 
     pub lose_keeps : (kind : Bool) → KeepsLeaves (tree_for kind old) (tree_for kind new)
-    lose_keeps = both_kinds KeepsLeaves old new literal l.here.keeps l.other (λ k u q stands under. stands)
+    lose_keeps = both_kinds KeepsLeaves old new literal l.here.removes.keeps l.other (λ k u q stands under. stands)

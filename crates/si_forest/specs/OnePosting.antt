@@ -5,6 +5,7 @@ use Rattle.si_legal.specs.declared.Posting.{Posting}
 use Rattle.si_legal.specs.Trees.{Tree, StandsIn}
 use Rattle.si_legal.specs.Legal.{IsLegal}
 use Rattle.si_legal.specs.StoredSets.{IsUnder, KeepsLeaves}
+use Rattle.si_prune.specs.Pruning.{Removes}
 
 -- the same is stored, in the same leaves
 pub record KeepsTree (old new : Tree Term) : Type 0 where
@@ -20,8 +21,10 @@ pub record GainsOne (old new : Tree Term) (t : Term) (p : Posting) (leaf : ℕ) 
   pub stands : StandsIn new leaf t p
   pub keeps : KeepsLeaves old new
 
--- the posting goes, and all others stay
-pub record LosesOne (old new : Tree Term) (p : Posting) : Type 0 where
+-- The posting goes from the leaf that it stands in, and all others stay. The leaf goes with its last
+-- posting, and stays without one only where a join is due, for which there was no memory.
+pub record LosesOne (old new : Tree Term) (p : Posting) (leaf : ℕ) : Type 0 where
   pub legal : IsLegal new
+  pub stood : (t : Term) × StandsIn old leaf t p
   pub stored : (u : Term) (q : Posting) → IsUnder new u q ↔ (IsUnder old u q × (q ≢ p))
-  pub keeps : KeepsLeaves old new
+  pub removes : Removes old new leaf p

@@ -9,7 +9,7 @@ ghost use Rattle.si_legal.specs.Trees.{StandsIn};
 ghost use Rattle.si_held.specs.TwoTrees.{AddsClause, AreLegal, IsNewKey, MayAddClause, tree_for};
 ghost use Rattle.si_insert.specs.Inserting.{MayInsert};
 ghost use Rattle.si_forest.specs.OnePosting.{GainsOne, KeepsTree, LosesOne};
-ghost use Rattle.si_forest.specs.Pairs.{two_of, AreAlone, ChangeOnly, GainOne, LoseOne, StayStored};
+ghost use Rattle.si_forest.specs.Pairs.{two_of, AreAlone, ChangeOnly, GainOne, LoseEach, LoseOne, StayStored};
 ghost use Rattle.si_forest.specs.Locations.{AreLocated};
 
 use crate::location::Location;
@@ -89,6 +89,7 @@ impl Pair {
         requires few { length locations.now ≤ MOST_OCCURRENCES }
         ensures change { ChangeOnly key (two_of self.old) (two_of self.new) }
         ensures gone { IsNewKey key (two_of self.new) }
+        ensures each { LoseEach key (two_of self.old) (two_of self.new) }
     {
         for (entry, location) in locations.iter().enumerate() {
             let posting = Posting {
@@ -194,7 +195,7 @@ impl Pair {
         requires legal { AreLegal (two_of self.old) }
         requires stands { (t : Term)
             × StandsIn (tree_for literal (two_of self.old)) leaf t posting }
-        ensures { LoseOne (two_of self.old) (two_of self.new) literal posting }
+        ensures { LoseOne (two_of self.old) (two_of self.new) literal posting leaf }
     {
         if literal {
             take(alloc, &mut self.literals, leaf, posting);
@@ -228,7 +229,7 @@ fn put(
 fn take(alloc: Global, tree: &mut Tree, leaf: NodeId, posting: Posting)
     requires legal { IsLegal tree.old }
     requires stands { (t : Term) × StandsIn tree.old leaf t posting }
-    ensures { LosesOne tree.old tree.new posting }
+    ensures { LosesOne tree.old tree.new posting leaf }
 {
     si_prune::remove(alloc, tree, leaf, posting);
     // So it is known that the tree is legal still.

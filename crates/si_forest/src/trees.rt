@@ -9,7 +9,7 @@ ghost use Rattle.si_descend.specs.Answers.{Retrieves};
 ghost use Rattle.si_descend.specs.Counting.{CountsAnswers};
 ghost use Rattle.si_descend.specs.Descending.{IsQuery};
 ghost use Rattle.si_held.specs.TwoTrees.{AddsClause, AreLegal, HoldSame, MayAddClause, RemovesClause, tree_for};
-ghost use Rattle.si_forest.specs.Pairs.{AreAlone};
+ghost use Rattle.si_forest.specs.Pairs.{AreAlone, LoseEach};
 
 use crate::notes::Notes;
 use crate::pair::Pair;
@@ -115,6 +115,7 @@ impl Trees {
     /// nodes, and to close what notes leave empty; both are left out where there is none.
     pub fn remove_clause(&mut self, key: usize)
         ensures removes { RemovesClause key self.old self.new }
+        ensures each { LoseEach key self.old self.new }
         ensures legal { AreLegal self.new }
     {
         self.pair

@@ -39,4 +39,5 @@ pub mod SideLengths
 pub mod AscendingLaws
 pub mod DirectLaws
 pub mod PairLaws
+pub mod SmallLaws
 pub mod RenamingLaws

@@ -5,10 +5,11 @@ use Rattle.si_defs.specs.Relations.{Relates}
 use Rattle.si_defs.specs.Solutions.{IsCanonical}
 use Rattle.si_defs.specs.Variables as variables
 use Rattle.si_flat.specs.declared.Cell.{Cell}
-use Rattle.si_flat.specs.Cells.{Variable, same_variable, Term, StandsFor}
+use Rattle.si_flat.specs.Cells.{Variable, same_variable, Term, IsWhole, StandsFor}
 use Rattle.si_flat.specs.Flattened.{counted_from, IsNumberedBy}
 use Rattle.si_flat.specs.Flattening.{owners_variable}
 use Rattle.si_flat.specs.declared.Owner.{Owner}
+use Rattle.si_flat.specs.declared.Owner.TheVariants.{Query, Entry}
 use Rattle.si_form.specs.declared.solution.Binding.{Binding}
 
 -- ---- numbered variables
@@ -22,6 +23,13 @@ IsNumbered owner t = IsNumberedBy (owners_variable owner) t
 
 abbrev pub AreNumbered : Owner → List Cell → Type 0
 AreNumbered owner cells = (t : Term) → StandsFor cells t → IsNumbered owner t
+
+-- they are the whole cells of a query and of an entry
+pub record AreQueryAndEntry (query_cells entry_cells : List Cell) : Type 0 where
+  pub whole_query : IsWhole query_cells
+  pub whole_entry : IsWhole entry_cells
+  pub query : AreNumbered Query query_cells
+  pub entry : AreNumbered Entry entry_cells
 
 -- ---- lists of bindings
 pub record StandsForPair (b : Binding) (pair : Variable × Term) : Type 0 where

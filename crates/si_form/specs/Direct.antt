@@ -1,5 +1,5 @@
 -- Bindings from which the canonical list can be read off.
-use Rattle.std.specs.Prelude.{◌≡◌, ◌≢◌, ℕ, ◌≤◌, ◌⊎◌, List, map, slice_index_or as get_or, Option, None, Some}
+use Rattle.std.specs.Prelude.{◌≡◌, ◌≢◌, ℕ, ◌+◌, ◌≤◌, ◌⊎◌, List, [], ◌∷◌, length, map, slice_index_or as get_or, Option, None, Some}
 use Rattle.std.specs.List.{AllByRecursion}
 use Rattle.std.specs.Borrow.{Bor}
 use Rattle.si_defs.specs.Terms as terms
@@ -10,8 +10,19 @@ use Rattle.si_trail.specs.Trails.{value_at}
 use Rattle.si_unify.specs.declared.slots.Slots.{Slots}
 use Rattle.si_unify.specs.Solving.{Pairs, variable_of, IsBinding, IsPieceOf}
 use Rattle.si_unify.specs.Spots.{cell_slot, CellIsUnbound}
+use Rattle.si_form.specs.declared.direct.TheConstants.{MOST_BINDINGS, MOST_CELLS}
 use Rattle.si_form.specs.Folding.{leader}
 use Rattle.si_form.specs.Unifying.{IsGeneral, HasGeneral}
+
+-- how many cells the values have together
+abbrev pub cell_count : Pairs → ℕ
+cell_count [] = 0
+cell_count (pair ∷ pairs) = length pair.1.now + cell_count pairs
+
+-- there are few bindings, and their values have few cells
+pub record AreSmall (pairs : Pairs) : Type 0 where
+  pub few : length pairs ≤ MOST_BINDINGS
+  pub short : cell_count pairs ≤ MOST_CELLS
 
 -- the cells are no slice of the value of another slot
 abbrev pub StandsApart : Pairs → ℕ → List Cell → Type 0

@@ -7,7 +7,7 @@ ghost use Rattle.si_flat.specs.Flattening.{owners_variable};
 ghost use Rattle.si_trail.specs.Trails.{value_at, HasDistinctSlots};
 ghost use Rattle.si_unify.specs.Solving.{slot_count, variable_of, AreInRange, IsAcyclic, IsBinding, IsPieceOf};
 ghost use Rattle.si_unify.specs.Spots.{CellIsUnbound};
-ghost use Rattle.si_form.specs.Direct.{StandsApart, head_slot, IsDirect, AreDirect, AreApplied, CanBeReadOff, BecomesThat, IsFirst, AreRenamed};
+ghost use Rattle.si_form.specs.Direct.{StandsApart, head_slot, IsDirect, AreDirect, AreApplied, AreSmall, CanBeReadOff, BecomesThat, IsFirst, AreRenamed};
 ghost use Rattle.si_form.specs.Unifying.{HasRightSide, ListsAllBindings, AreFree};
 
 use crate::matching::are_same;
@@ -47,7 +47,9 @@ pub(crate) fn binding(slots: Slots, slot: usize, value: Flat) -> Binding
 
 // Whether the bindings, so many, are few, and their values small.
 fn is_small<'a>(trail: &Trail<&'a [Cell]>, count: usize) -> bool
-    requires { count ≡ length trail.now.pairs }
+    requires number { count ≡ length trail.now.pairs }
+    requires distinct { HasDistinctSlots trail.now.pairs }
+    ensures { IsTrue result ↔ AreSmall trail.now.pairs }
 {
     if count > MOST_BINDINGS {
         return false;

@@ -3,7 +3,7 @@ ghost use Rattle.std.specs.Prelude.{◌≡◌, max, IfOk, IfSome, length, map};
 ghost use Rattle.si_flat.specs.Cells.{IsWhole};
 ghost use Rattle.si_defs.specs.declared.Relation.TheVariants.{Variants, Instances, Generalizations};
 ghost use Rattle.si_flat.specs.declared.Owner.TheVariants.{Query, Entry};
-ghost use Rattle.si_form.specs.Answers.{AreNumbered, Answers};
+ghost use Rattle.si_form.specs.Answers.{AreNumbered, AreQueryAndEntry, Answers};
 ghost use Rattle.si_form.specs.Matching.{binding_of, AreWholeImages, MatchAnswers};
 ghost use Rattle.si_form.specs.SolutionParts.{AreNoLonger};
 
@@ -55,10 +55,7 @@ fn matched(
 
 // The canonical list by which the entry is an instance of the query; `None` where it is none.
 fn instance(alloc: Global, query: &[Cell], entry: &[Cell]) -> Result<Option<Solution>, AllocError>
-    requires whole_query { IsWhole query.now }
-    requires whole_entry { IsWhole entry.now }
-    requires query { AreNumbered Query query.now }
-    requires entry { AreNumbered Entry entry.now }
+    requires { AreQueryAndEntry query.now entry.now }
     ensures answers { IfOk result (Answers Instances query.now entry.now) }
     ensures short { IfOk result (λ list. IfSome list (AreNoLonger (length entry.now))) }
 {
@@ -71,10 +68,7 @@ fn generalization(
     query: &[Cell],
     entry: &[Cell],
 ) -> Result<Option<Solution>, AllocError>
-    requires whole_query { IsWhole query.now }
-    requires whole_entry { IsWhole entry.now }
-    requires query { AreNumbered Query query.now }
-    requires entry { AreNumbered Entry entry.now }
+    requires { AreQueryAndEntry query.now entry.now }
     ensures answers { IfOk result (Answers Generalizations query.now entry.now) }
     ensures short { IfOk result (λ list. IfSome list (AreNoLonger (length query.now))) }
 {
@@ -83,10 +77,7 @@ fn generalization(
 
 // The canonical list by which each is an instance of the other; `None` where one isn't.
 fn variant(alloc: Global, query: &[Cell], entry: &[Cell]) -> Result<Option<Solution>, AllocError>
-    requires whole_query { IsWhole query.now }
-    requires whole_entry { IsWhole entry.now }
-    requires query { AreNumbered Query query.now }
-    requires entry { AreNumbered Entry entry.now }
+    requires { AreQueryAndEntry query.now entry.now }
     ensures answers { IfOk result (Answers Variants query.now entry.now) }
     ensures short { IfOk result (λ list. IfSome list (AreNoLonger (length entry.now))) }
 {

@@ -25,10 +25,14 @@ pub loop-entry-preserved : goal.loop-entry-preserved
 loop-entry-preserved c =
     let at : slice_get c.args.locations.now c.loop-entry.entry ≡ Some c.index-locations-entry.result = slice_get_read c.args.locations.now _ c.loop-entry.entry c.index-locations-entry.result refl c.loop-entry-test.true c.index-locations-entry.is in
     gone_more c.args.key c.loop-entry.entry c.args.locations.now c.index-locations-entry.result (two_of c.args.self.now) (two_of c.loop-entry.self) (two_of c.remove.new.self) c.requires.located at c.loop-entry.invariant
-    (subst (λ k. LoseOne (two_of c.loop-entry.self) (two_of c.remove.new.self) k (posting_of c.args.key c.loop-entry.entry)) c.literal.ensures c.remove.ensures)
+    (subst (λ n. LoseOne (two_of c.loop-entry.self) (two_of c.remove.new.self) c.index-locations-entry.result.literal (posting_of c.args.key c.loop-entry.entry) n) c.leaf.ensures
+    (subst (λ k. LoseOne (two_of c.loop-entry.self) (two_of c.remove.new.self) k (posting_of c.args.key c.loop-entry.entry) c.leaf.result) c.literal.ensures c.remove.ensures))
 
 pub returns-clause-change : goal.returns-clause-change
 returns-clause-change c = gone_change c.args.key c.loop-entry.entry (two_of c.args.self.now) (two_of c.loop-entry.self) c.loop-entry.invariant
 
 pub returns-clause-gone : goal.returns-clause-gone
 returns-clause-gone c = all_gone c.args.key c.loop-entry.entry c.args.locations.now (two_of c.args.self.now) (two_of c.loop-entry.self) c.requires.located c.loop-entry-test.false c.loop-entry.invariant
+
+pub returns-clause-each : goal.returns-clause-each
+returns-clause-each c = (c.loop-entry.entry, c.loop-entry.invariant.first)

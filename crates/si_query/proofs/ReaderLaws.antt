@@ -18,11 +18,10 @@ use Rattle.si_query.specs.Reading.{HasNumbersFor, Spends}
 
 module _ (pairs : Numbering) (at : ℕ) (a b c d : WalkState) (opened : Opens at a b) (ts : Terms) where
   -- a function by its kind and text
-  pub closed_function : (kind : SymKind) (text : Bytes) (arity : ℕ) (s : Symbol) → s ≡ function_symbol kind text arity → PutsSymbol pairs s true at c d
+  pub closed_function : (kind : SymKind) (text : Bytes) (arity : ℕ) → PutsSymbol pairs (function_symbol kind text arity) true at c d
       → WritesPiece pairs b c (terms_piece ts)
       → WritesPiece pairs a d (term_piece (terms.app (function_symbol kind text arity) ts))
-  closed_function kind text arity s is put =
-      puts_function pairs at a b c opened ts (function_symbol kind text arity) d (λ n. refl) (subst (λ r. PutsSymbol pairs r true at c d) is put)
+  closed_function kind text arity put = puts_function pairs at a b c opened ts (function_symbol kind text arity) d (λ n. refl) put
 
   -- a predicate
   pub closed_predicate : (s r : Symbol) (p : Bool) → s ≡ r → PutsSymbol pairs s p at c d

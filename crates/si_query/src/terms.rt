@@ -1,11 +1,13 @@
 // Terms at the front of tokens, whose cells are written as they are read.
-ghost use Rattle.std.specs.Prelude.{IfOk, IfSome};
+ghost use Rattle.std.specs.Prelude.{◌<◌, ◌-◌, ◌^◌, IfOk, IfSome, length, true};
 ghost use Rattle.si_defs.specs.declared.TokenKind.{TokenKind};
 ghost use Rattle.si_lex.specs.Lexemes.{token_of};
+ghost use Rattle.si_flat.specs.Writing.{PutsSymbol};
+ghost use Rattle.si_parse.specs.GrammarRules.{function_symbol};
 ghost use Rattle.si_query.specs.Reading.{HasNumbersFor, IsHeadKind, ReadsApplied, ReadsArguments, ReadsHeaded, ReadsTerm, WritesConstant};
 
 use si_defs::{Side, SymKind, TokenKind};
-use si_flat::QueryWriter;
+use si_flat::{Gap, QueryWriter};
 use si_lex::Lexeme;
 use si_parse::grammar::mark_at;
 use si_term::{Sym, SymTable};
@@ -54,13 +56,7 @@ fn constant<'t, 'b, T: SymTable>(
         (token_of token.now).text rest.now writer.old writer.new left.now)) }
 {
     let gap = writer.open()?;
-    let symbol = Sym {
-        text: token.text(alloc)?,
-        arity: 0,
-        kind,
-        side: Side::Function,
-    };
-    let Some(()) = writer.close(table, gap, &symbol, true) else {
+    let Some(()) = close_function(alloc, table, gap, kind, token, 0, writer)? else {
         return Ok(None);
     };
     Ok(Some(rest))
@@ -85,16 +81,36 @@ fn application<'t, 'b, T: SymTable>(
     let Some((arity, rest)) = applied(alloc, table, tokens, writer)? else {
         return Ok(None);
     };
+    let Some(()) = close_function(alloc, table, gap, kind, head, arity, writer)? else {
+        return Ok(None);
+    };
+    Ok(Some(rest))
+}
+
+/// Puts the cell of a function, by the token of its head, in the place that was left for it. `None`
+/// where the table lacks the symbol.
+#[inline(always)]
+fn close_function<T: SymTable>(
+    alloc: Global,
+    table: &T,
+    gap: Gap,
+    kind: SymKind,
+    head: &Lexeme<'_>,
+    arity: u32,
+    writer: &mut QueryWriter<'_>,
+) -> Result<Option<()>, AllocError>
+    requires inside { gap < length writer.old.cells }
+    requires short { length writer.old.cells - gap < 2 ^ 32 }
+    ensures { IfOk result (λ put. IfSome put (λ _. PutsSymbol (T.pairs table.now)
+        (function_symbol kind (token_of head.now).text arity) true gap writer.old writer.new)) }
+{
     let symbol = Sym {
         text: head.text(alloc)?,
         arity,
         kind,
         side: Side::Function,
     };
-    let Some(()) = writer.close(table, gap, &symbol, true) else {
-        return Ok(None);
-    };
-    Ok(Some(rest))
+    Ok(writer.close(table, gap, &symbol, true))
 }
 
 /// How many arguments stand after a head, and the tokens after them. None are there without a

@@ -12,8 +12,8 @@ use Rattle.si_query.proofs.ArgumentLaws.{along_start, along_next, along_end, app
 use Rattle.si_query.proofs.terms.+reading.Goals as goal
 
 -- ---- heads
-pub application-close-requires-clause-inside : goal.application-close-requires-clause-inside
-application-close-requires-clause-inside g t c =
+pub application-close_function-requires-clause-inside : goal.application-close_function-requires-clause-inside
+application-close_function-requires-clause-inside g t c =
     let h = found _ c.in_ok-arity.ensures c.in-Some.is in
     inside_written (g.T.SymTable.pairs c.args.table.now) _ c.args.writer.now c.open.new.self c.applied.new.writer c.in_ok-gap.ensures h.arguments h.flat
 
@@ -23,15 +23,15 @@ application-returns g t c =
     let a = c.args.writer.now in
     let b = c.open.new.self in
     let inside = c.applied.new.writer in
-    let d = c.close.new.self in
+    let d = c.close_function.new.writer in
     let h = found _ c.in_ok-arity.ensures c.in-Some.is in
     let opened = c.in_ok-gap.ensures in
-    let put = found _ c.close.ensures.put c.in-Some-close.is in
+    let put = found _ c.in_ok-close_function.ensures c.in-Some-2.is in
     let text = (token_of c.args.head.now).text in
     record {
       term = terms.app (function_symbol c.args.kind text c.in-Some.arity) h.arguments;
       read = h.read c.args.kind text;
-      flat = closed_function pairs _ a b inside d opened h.arguments c.args.kind text c.in-Some.arity _ (ap (λ x. function_symbol c.args.kind x c.in-Some.arity) c.in_ok-text.ensures) put h.flat;
+      flat = closed_function pairs _ a b inside d opened h.arguments c.args.kind text c.in-Some.arity put h.flat;
       fewer = h.fewer;
       spends = spends_closed pairs _ true _ a b inside d opened h.spends put;
     }

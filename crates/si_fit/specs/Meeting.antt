@@ -10,12 +10,6 @@ use Rattle.si_fit.specs.declared.meeting.Met.{Met}
 use Rattle.si_fit.specs.declared.meeting.Met.TheVariants.{Equal, Clash, Unknown}
 
 -- ---- cells
-abbrev pub IsSameVariable : Cell → Cell → Type 0
-IsSameVariable (cell.Query m) (cell.Query n) = m ≡ n
-IsSameVariable (cell.Entry m) (cell.Entry n) = m ≡ n
-IsSameVariable (cell.Ind m) (cell.Ind n) = m ≡ n
-IsSameVariable _ _ = ⊥
-
 -- the one is an indicator, or the other is of the query
 abbrev pub is_newer : Cell → Cell → Bool
 is_newer (cell.Ind m) other = true

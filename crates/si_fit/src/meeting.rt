@@ -1,12 +1,12 @@
 // A variable that is made equal to a term by binding it.
-ghost use Rattle.std.specs.Prelude.{◌≡◌, ℕ, ◌↔◌, ◌≤◌, length, None, IsTrue, get_or};
+ghost use Rattle.std.specs.Prelude.{◌≡◌, ℕ, ◌≤◌, length, None, get_or};
 ghost use Rattle.si_flat.specs.declared.Cell.TheVariants.{App};
 ghost use Rattle.si_flat.specs.Cells.{IsWhole};
 ghost use Rattle.si_trail.specs.Trails.{value_at};
 ghost use Rattle.si_unify.specs.Rooms.{AreNoLongerThan};
 ghost use Rattle.si_unify.specs.Solving.{AreInRange, AllowsSolving};
 ghost use Rattle.si_fit.specs.Fitting.{StaysSolvable};
-ghost use Rattle.si_fit.specs.Meeting.{IsOpenSlot, IsSameVariable, slot_cells, HasMet};
+ghost use Rattle.si_fit.specs.Meeting.{IsOpenSlot, slot_cells, HasMet};
 ghost use Rattle.si_fit.specs.Occurring.{IsFreeFor};
 
 use crate::occurring::{Occurrence, search};
@@ -23,19 +23,6 @@ pub(crate) enum Met {
     Clash,
     /// It wasn't found out.
     Unknown,
-}
-
-/// Whether the cells are those of one variable.
-#[inline(always)]
-pub(crate) fn is_same_variable(one: Cell, other: Cell) -> bool
-    ensures { IsTrue result ↔ IsSameVariable one other }
-{
-    match (one, other) {
-        (Cell::Query(number), Cell::Query(other)) => number == other,
-        (Cell::Entry(number), Cell::Entry(other)) => number == other,
-        (Cell::Ind(number), Cell::Ind(other)) => number == other,
-        _ => false,
-    }
 }
 
 /// What a slot is bound to.

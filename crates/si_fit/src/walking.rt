@@ -7,10 +7,10 @@ ghost use Rattle.si_unify.specs.Symbols.{same_symbol};
 ghost use Rattle.si_fit.specs.Fitting.{AreWalkable, StaysSolvable, StayWithin};
 ghost use Rattle.si_fit.specs.Meeting.{is_newer, HasMet};
 
-use crate::meeting::{Met, bind, is_same_variable, value_at};
+use crate::meeting::{Met, bind, value_at};
 use si_flat::{Cell, sub};
 use si_trail::Trail;
-use si_unify::{Slots, have_same_symbol};
+use si_unify::{Slots, have_same_symbol, is_same_variable};
 
 /// Makes two terms equal by binding variables, and follows those that are bound.
 ///

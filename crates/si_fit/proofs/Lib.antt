@@ -6,6 +6,7 @@ pub mod FrozenLaws
 pub mod BindLaws
 pub mod MeetLaws
 pub mod WalkLaws
+pub mod WalkedLaws
 pub mod PairLaws
 pub mod FreshLaws
 pub mod FillTurns

@@ -10,13 +10,13 @@ use Rattle.si_trail.specs.Trails.{value_at}
 use Rattle.si_unify.specs.declared.slots.Slots.{Slots}
 use Rattle.si_unify.specs.Solving.{Pairs, slot_of, variable_of, is_frozen, CellIsInRange, AreInRange, Equalizes, IsSolvedBy, IsBinding, IsInRange}
 use Rattle.si_unify.specs.Spots.{free_slot}
-use Rattle.si_unify.specs.Symbols.{same_symbol}
+use Rattle.si_unify.specs.Symbols.{same_symbol, IsSameVariable}
 use Rattle.si_unify.proofs.Places.{value_holds, first_cell, whole_at, cell-at, inside, in_range-at, in_range-variable, variable_of-slot_of}
 use Rattle.si_unify.proofs.Reading.{one_term}
 use Rattle.si_unify.proofs.Weights.{fits_all}
 use Rattle.si_unify.proofs.Meeting.{both_heads, free_variable, frozen_variable}
 use Rattle.si_fit.specs.Ends.{EndsAt}
-use Rattle.si_fit.specs.Meeting.{IsOpenSlot, IsSameVariable, slot_cells, HasMet, LeavesFrozen}
+use Rattle.si_fit.specs.Meeting.{IsOpenSlot, slot_cells, HasMet, LeavesFrozen}
 use Rattle.si_fit.specs.declared.meeting.Met.{Met}
 use Rattle.si_fit.specs.declared.meeting.Met.TheVariants.{Equal, Clash, Unknown}
 use Rattle.si_fit.specs.Occurring.{IsOtherUnbound, IsFreeFor, image_size, OccursIn}

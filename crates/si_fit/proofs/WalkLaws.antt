@@ -2,16 +2,17 @@
 use Rattle.std.proofs.Common.{◌≡◌, ◌↔◌, ℕ, ◌+◌, ◌<◌, ◌≤◌, true, false, List, [], ◌∷◌, ◌++◌, length, take, drop, get_or, refl, sym, ◌∙◌, ap, subst, arith, append-nil, length-append, drop-drop}
 use Rattle.std.proofs.lemmas.List.{length-drop}
 use Rattle.std.proofs.Math.Seq.{drop-append_seam}
+use Rattle.std.specs.Borrow.{Bor}
 use Rattle.si_defs.specs.Terms as terms
-use Rattle.si_defs.specs.Substitutions.{Grows}
 use Rattle.si_defs.proofs.ListLaws.{all_take, all_drop}
 use Rattle.si_defs.proofs.TermLaws.{size_some, same_app, same_more}
 use Rattle.si_flat.specs.declared.Cell.{Cell}
 use Rattle.si_flat.specs.declared.Cell.TheVariants as cell
 use Rattle.si_flat.specs.Cells.{Symbol, Variable, Term, Terms, join, cells_of, cells_of_all, AreSound, StandsFor, IsWhole}
 use Rattle.si_flat.proofs.Subterms.{length-cells_of_all, cells_some}
+use Rattle.si_trail.specs.Trails.{Trail}
 use Rattle.si_unify.specs.declared.slots.Slots.{Slots}
-use Rattle.si_unify.specs.Solving.{Pairs, CellIsInRange, AreInRange, Equalizes, IsSolvedBy, AllowsSolving}
+use Rattle.si_unify.specs.Solving.{Pairs, CellIsInRange, AreInRange, Equalizes, IsSolvedBy}
 use Rattle.si_unify.specs.Spots.{IsAt}
 use Rattle.si_unify.specs.Symbols.{same_symbol}
 use Rattle.si_unify.proofs.Places.{first_cell, cell-at, inside}
@@ -20,9 +21,9 @@ use Rattle.si_unify.proofs.Rows.{cells-join, sound-join, count-join, substitute-
 use Rattle.si_unify.proofs.Binding.{cut_stands}
 use Rattle.si_unify.proofs.Comparing.{grows_on}
 use Rattle.si_unify.proofs.Meeting.{HaveHead, have_head}
-use Rattle.si_fit.specs.Fitting.{StayWithin}
-use Rattle.si_fit.specs.Meeting.{HasMet}
-use Rattle.si_fit.specs.declared.meeting.Met.TheVariants.{Equal, Clash}
+use Rattle.si_fit.specs.Fitting.{AreWalkable, StaysSolvable, StayWithin}
+use Rattle.si_fit.specs.Meeting.{HasMet, HasWalked}
+use Rattle.si_fit.specs.declared.meeting.Met.TheVariants.{Equal, Clash, Unknown}
 use Rattle.si_fit.proofs.EndLaws.{no_cell}
 use Rattle.si_fit.proofs.FitTurns.{no_more}
 use Rattle.si_fit.proofs.LengthLaws.{stay_there, parts_stay}
@@ -41,7 +42,7 @@ no_terms : (ts : Terms) → length (cells_of_all ts) ≡ 0 → ts ≡ terms.none
 no_terms terms.none e = refl
 no_terms (terms.more t ts) e = absurd (omega (arith, e, length-cells_of_all (terms.more t ts), size_some t))
 
-module _ (slots : Slots) (left right : List Cell) (old : Pairs) (count : ℕ) where
+module _ (slots : Slots) (left right : List Cell) (old : Trail (Bor (List Cell))) where
   -- the row `ts` is left of the one term, and `us` of the other
   pub record AreLeft (pairs : Pairs) (i j : ℕ) (ts us : Terms) : Type 0 where
     pub left_cells : drop i left ≡ cells_of_all ts
@@ -52,35 +53,35 @@ module _ (slots : Slots) (left right : List Cell) (old : Pairs) (count : ℕ) wh
     pub so_far :
         (f : Variable → Term)
         → (IsSolvedBy slots pairs f × (terms.substitute_all f ts ≡ terms.substitute_all f us))
-        ↔ (IsSolvedBy slots old f × Equalizes f left right)
+        ↔ (IsSolvedBy slots old.pairs f × Equalizes f left right)
 
-  pub record IsWalking (pairs : Pairs) (i j : ℕ) : Type 0 where
+  pub record IsWalking (now : Trail (Bor (List Cell))) (i j : ℕ) : Type 0 where
     pub ts : Terms
     pub us : Terms
-    pub rows : AreLeft pairs i j ts us
-    pub grows : Grows old pairs
-    pub ready : AllowsSolving slots pairs count
-    pub within : StayWithin old pairs left right
+    pub rows : AreLeft now.pairs i j ts us
+    pub trail : StaysSolvable slots old now
+    pub within : StayWithin old.pairs now.pairs left right
 
-  pub walk_starts : IsWhole left → IsWhole right → AllowsSolving slots old count → IsWalking old 0 0
-  walk_starts t u ready = record {
-    ts = terms.more t.0 terms.none;
-    us = terms.more u.0 terms.none;
-    rows = record {
-      left_cells = t.1.cells_are ∙ sym (append-nil (cells_of t.0));
-      right_cells = u.1.cells_are ∙ sym (append-nil (cells_of u.0));
-      left_sound = (t.1.sound, tt);
-      right_sound = (u.1.sound, tt);
-      counts = refl;
-      so_far = λ f. (
-        λ both. (both.0, λ v w left_stands right_stands. ap (terms.substitute f) (one_term left v t.0 left_stands t.1) ∙ (same_more _ _ _ _ both.1).0 ∙ ap (terms.substitute f) (one_term right u.0 w u.1 right_stands)),
-        λ both. (both.0, ap (λ v. terms.more v terms.none) (both.1 t.0 u.0 t.1 u.1)),
-      );
-    };
-    grows = no_more old;
-    ready = ready;
-    within = stay_there old left right;
-  }
+  pub walk_starts : AreWalkable slots old left right → IsWalking old 0 0
+  walk_starts both = by both.left both.right where
+    by : IsWhole left → IsWhole right → IsWalking old 0 0
+    by t u = record {
+      ts = terms.more t.0 terms.none;
+      us = terms.more u.0 terms.none;
+      rows = record {
+        left_cells = t.1.cells_are ∙ sym (append-nil (cells_of t.0));
+        right_cells = u.1.cells_are ∙ sym (append-nil (cells_of u.0));
+        left_sound = (t.1.sound, tt);
+        right_sound = (u.1.sound, tt);
+        counts = refl;
+        so_far = λ f. (
+          λ both. (both.0, λ v w left_stands right_stands. ap (terms.substitute f) (one_term left v t.0 left_stands t.1) ∙ (same_more _ _ _ _ both.1).0 ∙ ap (terms.substitute f) (one_term right u.0 w u.1 right_stands)),
+          λ both. (both.0, ap (λ v. terms.more v terms.none) (both.1 t.0 u.0 t.1 u.1)),
+        );
+      };
+      trail = record { grows = no_more old.pairs; ready = both.ready; count = refl };
+      within = stay_there old.pairs left right;
+    }
 
   -- ---- the next terms
   pub record AreNext (pairs : Pairs) (i j : ℕ) : Type 0 where
@@ -105,11 +106,11 @@ module _ (slots : Slots) (left right : List Cell) (old : Pairs) (count : ℕ) wh
     right_at = record { after = cells_of_all us; from = h.right_cells; sound = h.right_sound.0 };
   }
 
-  pub next_terms : (pairs : Pairs) (i j : ℕ) → IsWalking pairs i j → j < length right → AreNext pairs i j
-  next_terms pairs i j h less = next_of pairs i j h.ts h.us h.rows less
+  pub next_terms : (now : Trail (Bor (List Cell))) (i j : ℕ) → IsWalking now i j → j < length right → AreNext now.pairs i j
+  next_terms now i j h less = next_of now.pairs i j h.ts h.us h.rows less
 
-  pub left_inside : (pairs : Pairs) (i j : ℕ) → IsWalking pairs i j → j < length right → i < length left
-  left_inside pairs i j h less = let n = next_terms pairs i j h less in inside left i n.t n.left_at
+  pub left_inside : (now : Trail (Bor (List Cell))) (i j : ℕ) → IsWalking now i j → j < length right → i < length left
+  left_inside now i j h less = let n = next_terms now i j h less in inside left i n.t n.left_at
 
   -- ---- one symbol on both sides
   symbol_passed : (pairs : Pairs) (i j : ℕ) (s : Symbol) (xs ys ts us : Terms) → AreLeft pairs i j (terms.more (terms.app s xs) ts) (terms.more (terms.app s ys) us) → AreLeft pairs (i + 1) (j + 1) (join xs ts) (join ys us)
@@ -140,25 +141,24 @@ module _ (slots : Slots) (left right : List Cell) (old : Pairs) (count : ℕ) wh
       (subst (λ v. AreLeft pairs i j (terms.more (terms.app head.symbol head.left_arguments) ts) (terms.more v us)) head.right
       (subst (λ v. AreLeft pairs i j (terms.more v ts) (terms.more u us)) head.left h))
 
-  pub walk_descends : (pairs : Pairs) (i j : ℕ) → IsWalking pairs i j → j < length right → same_symbol (get_or left i no_cell) (get_or right j no_cell) ≡ true → IsWalking pairs (i + 1) (j + 1)
-  walk_descends pairs i j h less e =
-      let n = next_terms pairs i j h less in
+  pub walk_descends : (now : Trail (Bor (List Cell))) (i j : ℕ) → IsWalking now i j → j < length right → same_symbol (get_or left i no_cell) (get_or right j no_cell) ≡ true → IsWalking now (i + 1) (j + 1)
+  walk_descends now i j h less e =
+      let n = next_terms now i j h less in
       let cells : same_symbol (first_cell n.t) (first_cell n.u) ≡ true =
       ap (λ c. same_symbol c (first_cell n.u)) (sym (cell-at left i n.t no_cell n.left_at)) ∙ ap (same_symbol (get_or left i no_cell)) (sym (cell-at right j n.u no_cell n.right_at)) ∙ e in
       let head = have_head n.t n.u cells in
       record {
         ts = join head.left_arguments n.ts;
         us = join head.right_arguments n.us;
-        rows = heads_passed pairs i j n.t n.u n.ts n.us head n.rows;
-        grows = h.grows;
-        ready = h.ready;
+        rows = heads_passed now.pairs i j n.t n.u n.ts n.us head n.rows;
+        trail = h.trail;
         within = h.within;
       }
 
   -- ---- two terms that have met
-  module _ (pairs : Pairs) (i j : ℕ) (one other : List Cell) (h : IsWalking pairs i j) (less : j < length right) (one_cut : one ≡ take (length one) (drop i left)) (other_cut : other ≡ take (length other) (drop j right)) (one_whole : IsWhole one) (other_whole : IsWhole other) where
-    abbrev next : AreNext pairs i j
-    next = next_terms pairs i j h less
+  module _ (now : Trail (Bor (List Cell))) (i j : ℕ) (one other : List Cell) (h : IsWalking now i j) (less : j < length right) (one_cut : one ≡ take (length one) (drop i left)) (other_cut : other ≡ take (length other) (drop j right)) (one_whole : IsWhole one) (other_whole : IsWhole other) where
+    abbrev next : AreNext now.pairs i j
+    next = next_terms now i j h less
 
     one_stands : StandsFor one next.t
     one_stands = cut_stands left one i next.t next.left_at one_cut one_whole
@@ -186,16 +186,33 @@ module _ (slots : Slots) (left right : List Cell) (old : Pairs) (count : ℕ) wh
     pub right_within : j + length other ≤ length right
     right_within = omega (arith, ap length other_stands.cells_are, ap length next.right_at.from, length-append (cells_of next.u) next.right_at.after, length-drop j right, less)
 
-    pub walk_stays : (new : Pairs) → StayWithin pairs new one other → StayWithin old new left right
-    walk_stays new stay = parts_stay old pairs new left right one other (omega (arith, left_within)) (omega (arith, right_within)) h.within stay
+    pub part_walkable : AreWalkable slots old left right → AreWalkable slots now one other
+    part_walkable both = record {
+      left = one_whole;
+      right = other_whole;
+      left_range = cut_in_range slots left i one both.left_range one_cut;
+      right_range = cut_in_range slots right j other both.right_range other_cut;
+      ready = h.trail.ready;
+    }
+
+    -- what is left of the trail by that
+    trail_after : (new : Trail (Bor (List Cell))) → StaysSolvable slots now new → StaysSolvable slots old new
+    trail_after new then = record {
+      grows = grows_on old.pairs now.pairs new.pairs h.trail.grows then.grows;
+      ready = then.ready;
+      count = then.count ∙ h.trail.count;
+    }
+
+    within_after : (new : Trail (Bor (List Cell))) → StayWithin now.pairs new.pairs one other → StayWithin old.pairs new.pairs left right
+    within_after new stay = parts_stay old.pairs now.pairs new.pairs left right one other (omega (arith, left_within)) (omega (arith, right_within)) h.within stay
 
     -- what makes the two slices equal makes the terms equal
     equal_of : (f : Variable → Term) → terms.substitute f next.t ≡ terms.substitute f next.u → Equalizes f one other
     equal_of f e t u left_stands right_stands =
         ap (terms.substitute f) (one_term one t next.t left_stands one_stands) ∙ e ∙ ap (terms.substitute f) (one_term other next.u u other_stands right_stands)
 
-    pub walk_goes_on : (new : Pairs) → HasMet slots pairs new one other Equal → Grows pairs new → AllowsSolving slots new count → StayWithin pairs new one other → IsWalking new (i + length one) (j + length other)
-    walk_goes_on new met grows ready stay = record {
+    pub walk_goes_on : (new : Trail (Bor (List Cell))) → HasWalked slots now new one other Equal → IsWalking new (i + length one) (j + length other)
+    walk_goes_on new walked = record {
       ts = next.ts;
       us = next.us;
       rows = record {
@@ -206,32 +223,45 @@ module _ (slots : Slots) (left right : List Cell) (old : Pairs) (count : ℕ) wh
         counts = omega (arith, next.rows.counts);
         so_far = λ f. (
           λ both.
-              let before = (met f).0 both.0 in
+              let before = (walked.outcome f).0 both.0 in
               (next.rows.so_far f).0 (before.0, λ k. terms.more (before.1 next.t next.u one_stands other_stands k) (both.1 k)),
           λ both.
               let before = (next.rows.so_far f).1 both in
               let two = same_more _ _ _ _ before.1 in
-              ((met f).1 (before.0, equal_of f two.0), two.1),
+              ((walked.outcome f).1 (before.0, equal_of f two.0), two.1),
         );
       };
-      grows = grows_on old pairs new h.grows grows;
-      ready = ready;
-      within = walk_stays new stay;
+      trail = trail_after new walked.trail;
+      within = within_after new walked.within;
     }
 
-    pub walk_clashes : (new : Pairs) → HasMet slots pairs new one other Clash → (later : Pairs) → HasMet slots old later left right Clash
-    walk_clashes new met later f solved equal =
-        let before = (next.rows.so_far f).1 (solved, equal) in
-        met f before.0 (equal_of f (same_more _ _ _ _ before.1).0)
+    pub walk_clashes : (new : Trail (Bor (List Cell))) → HasWalked slots now new one other Clash → HasWalked slots old new left right Clash
+    walk_clashes new walked = record {
+      outcome = λ f solved equal.
+          let before = (next.rows.so_far f).1 (solved, equal) in
+          walked.outcome f before.0 (equal_of f (same_more _ _ _ _ before.1).0);
+      trail = trail_after new walked.trail;
+      within = within_after new walked.within;
+    }
+
+    pub walk_stops : (new : Trail (Bor (List Cell))) → HasWalked slots now new one other Unknown → HasWalked slots old new left right Unknown
+    walk_stops new walked = record {
+      outcome = tt;
+      trail = trail_after new walked.trail;
+      within = within_after new walked.within;
+    }
 
   -- ---- none is left
-  none_of : (pairs : Pairs) (i j : ℕ) (ts us : Terms) → AreLeft pairs i j ts us → us ≡ terms.none → HasMet slots old pairs left right Equal
+  none_of : (pairs : Pairs) (i j : ℕ) (ts us : Terms) → AreLeft pairs i j ts us → us ≡ terms.none → HasMet slots old.pairs pairs left right Equal
   none_of pairs i j terms.none us h e = λ f. (
     λ solved. (h.so_far f).0 (solved, sym (ap (terms.substitute_all f) e)),
     λ both. ((h.so_far f).1 both).0,
   )
   none_of pairs i j (terms.more t ts) us h e = absurd (omega (arith, h.counts, ap terms.count e))
 
-  pub walk_ends : (pairs : Pairs) (i j : ℕ) → IsWalking pairs i j → length right ≤ j → HasMet slots old pairs left right Equal
-  walk_ends pairs i j h over =
-      none_of pairs i j h.ts h.us h.rows (no_terms h.us (sym (ap length h.rows.right_cells) ∙ length-drop j right ∙ omega (arith, over)))
+  pub walk_ends : (now : Trail (Bor (List Cell))) (i j : ℕ) → IsWalking now i j → length right ≤ j → HasWalked slots old now left right Equal
+  walk_ends now i j h over = record {
+    outcome = none_of now.pairs i j h.ts h.us h.rows (no_terms h.us (sym (ap length h.rows.right_cells) ∙ length-drop j right ∙ omega (arith, over)));
+    trail = h.trail;
+    within = h.within;
+  }

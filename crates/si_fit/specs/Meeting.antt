@@ -1,20 +1,26 @@
 -- What is known of two terms that are to be made equal, where no search is made.
-use Rattle.std.specs.Prelude.{◌≡◌, ℕ, ◌↔◌, Bool, true, false, List, [], ◌∷◌}
+use Rattle.std.specs.Borrow.{Bor}
+use Rattle.std.specs.Prelude.{◌≡◌, ℕ, ◌↔◌, Bool, true, false, IsTrue, List, [], ◌∷◌, get_or}
 use Rattle.si_defs.specs.Terms as terms
 use Rattle.si_flat.specs.declared.Cell.{Cell}
 use Rattle.si_flat.specs.declared.Cell.TheVariants as cell
 use Rattle.si_flat.specs.Cells.{Variable, Term, variable_cell}
+use Rattle.si_trail.specs.Trails.{Trail}
 use Rattle.si_unify.specs.declared.slots.Slots.{Slots}
 use Rattle.si_unify.specs.Solving.{Pairs, slot_of, variable_of, is_frozen, IsInRange, Equalizes, IsSolvedBy}
+use Rattle.si_unify.specs.Symbols.{same_symbol}
+use Rattle.si_fit.specs.Fitting.{StaysSolvable, StayWithin}
 use Rattle.si_fit.specs.declared.meeting.Met.{Met}
 use Rattle.si_fit.specs.declared.meeting.Met.TheVariants.{Equal, Clash, Unknown}
 
 -- ---- cells
-abbrev pub IsSameVariable : Cell → Cell → Type 0
-IsSameVariable (cell.Query m) (cell.Query n) = m ≡ n
-IsSameVariable (cell.Entry m) (cell.Entry n) = m ≡ n
-IsSameVariable (cell.Ind m) (cell.Ind n) = m ≡ n
-IsSameVariable _ _ = ⊥
+-- the first one
+abbrev pub leading_cell : List Cell → Cell
+leading_cell cells = get_or cells 0 (cell.App 0 0 0)
+
+-- the two don't begin with the same symbol
+abbrev pub HaveOtherSymbols : List Cell → List Cell → Type 0
+HaveOtherSymbols left right = IsTrue (same_symbol (leading_cell left) (leading_cell right)) → ⊥
 
 -- the one is an indicator, or the other is of the query
 abbrev pub is_newer : Cell → Cell → Bool
@@ -43,6 +49,14 @@ HasMet slots old new left right Equal =
 HasMet slots old new left right Clash =
     (f : Variable → Term) → IsSolvedBy slots old f → Equalizes f left right → ⊥
 HasMet slots old new left right Unknown = Unit {0}
+
+-- The outcome of a walk over two terms, and what it leaves of the trail: more may be bound, from
+-- where the solver may go on, and no new value is longer than all that was there.
+pub record HasWalked (slots : Slots) (old new : Trail (Bor (List Cell))) (left right : List Cell)
+    (met : Met) : Type 0 where
+  pub outcome : HasMet slots old.pairs new.pairs left right met
+  pub trail : StaysSolvable slots old new
+  pub within : StayWithin old.pairs new.pairs left right
 
 -- the map leaves frozen variables as they are
 abbrev pub LeavesFrozen : Slots → (Variable → Term) → Type 0

@@ -1,11 +1,8 @@
 // The walk over a term and a right side whose indicators are fresh.
-ghost use Rattle.std.specs.Prelude.{IsTrue, get_or};
 ghost use Rattle.std.specs.List.{AllByRecursion};
-ghost use Rattle.si_flat.specs.declared.Cell.TheVariants.{App};
-ghost use Rattle.si_unify.specs.Symbols.{same_symbol};
-ghost use Rattle.si_fit.specs.Fitting.{AreWalkable, StaysSolvable, StayWithin};
+ghost use Rattle.si_fit.specs.Fitting.{AreWalkable};
 ghost use Rattle.si_fit.specs.Fresh.{StandOnce, IsNew};
-ghost use Rattle.si_fit.specs.Meeting.{HasMet};
+ghost use Rattle.si_fit.specs.Meeting.{leading_cell, HaveOtherSymbols, HasWalked};
 
 use crate::ends::end_of;
 use crate::meeting::Met;
@@ -27,9 +24,7 @@ fn fill<'a>(
     requires terms { AreWalkable slots.now trail.old left.now right.now }
     requires once { StandOnce right.now }
     requires fresh { AllByRecursion (IsNew slots.now trail.old.pairs left.now) right.now }
-    ensures met { HasMet slots.now trail.old.pairs trail.new.pairs left.now right.now result }
-    ensures trail { StaysSolvable slots.now trail.old trail.new }
-    ensures within { StayWithin trail.old.pairs trail.new.pairs left.now right.now }
+    ensures { HasWalked slots.now trail.old trail.new left.now right.now result }
 {
     let mut i = 0;
     let mut j = 0;
@@ -66,12 +61,9 @@ fn fill_one<'a>(
     budget: &mut u32,
 ) -> Met
     requires terms { AreWalkable slots.now trail.old left.now right.now }
-    requires differ { IsTrue (same_symbol (get_or left.now 0 (App 0 0 0))
-        (get_or right.now 0 (App 0 0 0))) → ⊥ }
-    requires fresh { IsNew slots.now trail.old.pairs left.now (get_or right.now 0 (App 0 0 0)) }
-    ensures met { HasMet slots.now trail.old.pairs trail.new.pairs left.now right.now result }
-    ensures trail { StaysSolvable slots.now trail.old trail.new }
-    ensures within { StayWithin trail.old.pairs trail.new.pairs left.now right.now }
+    requires differ { HaveOtherSymbols left.now right.now }
+    requires fresh { IsNew slots.now trail.old.pairs left.now (leading_cell right.now) }
+    ensures { HasWalked slots.now trail.old trail.new left.now right.now result }
 {
     let first = right[0];
     if let Cell::Ind(number) = first {
@@ -96,9 +88,7 @@ pub(crate) fn fill_any<'a>(
     requires terms { AreWalkable slots.now trail.old left.now right.now }
     requires once { StandOnce right.now }
     requires fresh { AllByRecursion (IsNew slots.now trail.old.pairs left.now) right.now }
-    ensures met { HasMet slots.now trail.old.pairs trail.new.pairs left.now right.now result }
-    ensures trail { StaysSolvable slots.now trail.old trail.new }
-    ensures within { StayWithin trail.old.pairs trail.new.pairs left.now right.now }
+    ensures { HasWalked slots.now trail.old trail.new left.now right.now result }
 {
     if have_same_symbol(left[0], right[0]) {
         return fill(trail, slots, left, right, budget);

@@ -1,12 +1,8 @@
 // A variable that is made equal to a term by binding it.
-ghost use Rattle.std.specs.Prelude.{◌≡◌, ℕ, ◌↔◌, ◌≤◌, length, None, IsTrue, get_or};
-ghost use Rattle.si_flat.specs.declared.Cell.TheVariants.{App};
-ghost use Rattle.si_flat.specs.Cells.{IsWhole};
+ghost use Rattle.std.specs.Prelude.{◌≡◌, ◌≤◌, None};
 ghost use Rattle.si_trail.specs.Trails.{value_at};
-ghost use Rattle.si_unify.specs.Rooms.{AreNoLongerThan};
-ghost use Rattle.si_unify.specs.Solving.{AreInRange, AllowsSolving};
-ghost use Rattle.si_fit.specs.Fitting.{StaysSolvable};
-ghost use Rattle.si_fit.specs.Meeting.{IsOpenSlot, IsSameVariable, slot_cells, HasMet};
+ghost use Rattle.si_fit.specs.Fitting.{AreWalkable};
+ghost use Rattle.si_fit.specs.Meeting.{leading_cell, IsOpenSlot, slot_cells, HasWalked};
 ghost use Rattle.si_fit.specs.Occurring.{IsFreeFor};
 
 use crate::occurring::{Occurrence, search};
@@ -23,19 +19,6 @@ pub(crate) enum Met {
     Clash,
     /// It wasn't found out.
     Unknown,
-}
-
-/// Whether the cells are those of one variable.
-#[inline(always)]
-pub(crate) fn is_same_variable(one: Cell, other: Cell) -> bool
-    ensures { IsTrue result ↔ IsSameVariable one other }
-{
-    match (one, other) {
-        (Cell::Query(number), Cell::Query(other)) => number == other,
-        (Cell::Entry(number), Cell::Entry(other)) => number == other,
-        (Cell::Ind(number), Cell::Ind(other)) => number == other,
-        _ => false,
-    }
 }
 
 /// What a slot is bound to.
@@ -55,17 +38,12 @@ pub(crate) fn bind<'a>(
     term: &'a [Cell],
     budget: &mut u32,
 ) -> Met
+    requires terms { AreWalkable slots.now trail.old (slot_cells slots.now slot) term.now }
     requires slot { IsOpenSlot slots.now slot }
     requires unbound { value_at trail.old.pairs slot ≡ None }
-    requires whole { IsWhole term.now }
-    requires range { AreInRange slots.now term.now }
-    requires first { IsFreeFor slots.now trail.old.pairs slot (get_or term.now 0 (App 0 0 0)) }
-    requires ready { AllowsSolving slots.now trail.old.pairs trail.old.slots }
-    ensures met { HasMet slots.now trail.old.pairs trail.new.pairs (slot_cells slots.now slot)
-        term.now result }
-    ensures trail { StaysSolvable slots.now trail.old trail.new }
-    ensures within { (n : ℕ) → AreNoLongerThan n trail.old.pairs → length term.now ≤ n
-        → AreNoLongerThan n trail.new.pairs }
+    requires first { IsFreeFor slots.now trail.old.pairs slot (leading_cell term.now) }
+    ensures walked { HasWalked slots.now trail.old trail.new (slot_cells slots.now slot) term.now
+        result }
     ensures fewer { budget.new ≤ budget.old }
 {
     let head = term[0];

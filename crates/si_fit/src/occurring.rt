@@ -1,10 +1,9 @@
 // Whether a variable occurs in a term once the bindings are put in.
-ghost use Rattle.std.specs.Prelude.{◌↔◌, ◌≤◌, IsTrue, get_or};
+ghost use Rattle.std.specs.Prelude.{◌↔◌, ◌≤◌, IsTrue};
 ghost use Rattle.std.specs.List.{AllByRecursion};
-ghost use Rattle.si_flat.specs.declared.Cell.TheVariants.{App};
 ghost use Rattle.si_flat.specs.Cells.{IsWhole};
 ghost use Rattle.si_unify.specs.Solving.{AreInRange, CellIsInRange, IsBinding};
-ghost use Rattle.si_fit.specs.Meeting.{IsOpenSlot};
+ghost use Rattle.si_fit.specs.Meeting.{leading_cell, IsOpenSlot};
 ghost use Rattle.si_fit.specs.Occurring.{IsFreeFor, HasSearched, HasSearchedCell};
 
 use si_flat::Cell;
@@ -112,7 +111,7 @@ pub(crate) fn search(
 ) -> Occurrence
     requires slot { IsOpenSlot slots.now slot }
     requires whole { IsWhole cells.now }
-    requires first { IsFreeFor slots.now trail.now.pairs slot (get_or cells.now 0 (App 0 0 0)) }
+    requires first { IsFreeFor slots.now trail.now.pairs slot (leading_cell cells.now) }
     requires range { AreInRange slots.now cells.now }
     requires bindings { AllByRecursion (IsBinding slots.now) trail.now.pairs }
     ensures found { HasSearched slots.now trail.now.pairs slot cells.now result }

@@ -1,16 +1,14 @@
 // The walk over two terms beside each other.
-ghost use Rattle.std.specs.Prelude.{◌≡◌, ◌≤◌, None, Some, IsTrue, get_or};
-ghost use Rattle.si_flat.specs.declared.Cell.TheVariants.{App};
+ghost use Rattle.std.specs.Prelude.{◌≡◌, ◌≤◌, None, Some};
 ghost use Rattle.si_trail.specs.Trails.{value_at};
 ghost use Rattle.si_unify.specs.Spots.{free_slot};
-ghost use Rattle.si_unify.specs.Symbols.{same_symbol};
-ghost use Rattle.si_fit.specs.Fitting.{AreWalkable, StaysSolvable, StayWithin};
-ghost use Rattle.si_fit.specs.Meeting.{is_newer, HasMet};
+ghost use Rattle.si_fit.specs.Fitting.{AreWalkable};
+ghost use Rattle.si_fit.specs.Meeting.{leading_cell, is_newer, HaveOtherSymbols, HasWalked};
 
-use crate::meeting::{Met, bind, is_same_variable, value_at};
+use crate::meeting::{Met, bind, value_at};
 use si_flat::{Cell, sub};
 use si_trail::Trail;
-use si_unify::{Slots, have_same_symbol};
+use si_unify::{Slots, have_same_symbol, is_same_variable};
 
 /// Makes two terms equal by binding variables, and follows those that are bound.
 ///
@@ -25,9 +23,7 @@ pub(crate) fn walk<'a>(
     budget: &mut u32,
 ) -> Met
     requires terms { AreWalkable slots.now trail.old left.now right.now }
-    ensures met { HasMet slots.now trail.old.pairs trail.new.pairs left.now right.now result }
-    ensures trail { StaysSolvable slots.now trail.old trail.new }
-    ensures within { StayWithin trail.old.pairs trail.new.pairs left.now right.now }
+    ensures walked { HasWalked slots.now trail.old trail.new left.now right.now result }
     ensures fewer { budget.new ≤ budget.old }
 {
     let mut i = 0;
@@ -63,9 +59,7 @@ fn follow<'a>(
     budget: &mut u32,
 ) -> Met
     requires terms { AreWalkable slots.now trail.old left.now right.now }
-    ensures met { HasMet slots.now trail.old.pairs trail.new.pairs left.now right.now result }
-    ensures trail { StaysSolvable slots.now trail.old trail.new }
-    ensures within { StayWithin trail.old.pairs trail.new.pairs left.now right.now }
+    ensures walked { HasWalked slots.now trail.old trail.new left.now right.now result }
     ensures fewer { budget.new ≤ budget.old }
 {
     if *budget == 0 {
@@ -86,12 +80,9 @@ fn meet_fixed<'a>(
     budget: &mut u32,
 ) -> Met
     requires terms { AreWalkable slots.now trail.old left.now right.now }
-    requires differ { IsTrue (same_symbol (get_or left.now 0 (App 0 0 0))
-        (get_or right.now 0 (App 0 0 0))) → ⊥ }
-    requires fixed { free_slot slots.now (get_or right.now 0 (App 0 0 0)) ≡ None }
-    ensures met { HasMet slots.now trail.old.pairs trail.new.pairs left.now right.now result }
-    ensures trail { StaysSolvable slots.now trail.old trail.new }
-    ensures within { StayWithin trail.old.pairs trail.new.pairs left.now right.now }
+    requires differ { HaveOtherSymbols left.now right.now }
+    requires fixed { free_slot slots.now (leading_cell right.now) ≡ None }
+    ensures walked { HasWalked slots.now trail.old trail.new left.now right.now result }
     ensures fewer { budget.new ≤ budget.old }
 {
     let one = left[0];
@@ -134,11 +125,9 @@ fn meet_unbound<'a>(
     budget: &mut u32,
 ) -> Met
     requires terms { AreWalkable slots.now trail.old left.now right.now }
-    requires variable { free_slot slots.now (get_or right.now 0 (App 0 0 0)) ≡ Some slot }
+    requires variable { free_slot slots.now (leading_cell right.now) ≡ Some slot }
     requires unbound { value_at trail.old.pairs slot ≡ None }
-    ensures met { HasMet slots.now trail.old.pairs trail.new.pairs left.now right.now result }
-    ensures trail { StaysSolvable slots.now trail.old trail.new }
-    ensures within { StayWithin trail.old.pairs trail.new.pairs left.now right.now }
+    ensures walked { HasWalked slots.now trail.old trail.new left.now right.now result }
     ensures fewer { budget.new ≤ budget.old }
 {
     let one = left[0];
@@ -168,11 +157,8 @@ pub(crate) fn meet<'a>(
     budget: &mut u32,
 ) -> Met
     requires terms { AreWalkable slots.now trail.old left.now right.now }
-    requires differ { IsTrue (same_symbol (get_or left.now 0 (App 0 0 0))
-        (get_or right.now 0 (App 0 0 0))) → ⊥ }
-    ensures met { HasMet slots.now trail.old.pairs trail.new.pairs left.now right.now result }
-    ensures trail { StaysSolvable slots.now trail.old trail.new }
-    ensures within { StayWithin trail.old.pairs trail.new.pairs left.now right.now }
+    requires differ { HaveOtherSymbols left.now right.now }
+    ensures walked { HasWalked slots.now trail.old trail.new left.now right.now result }
     ensures fewer { budget.new ≤ budget.old }
 {
     let other = right[0];

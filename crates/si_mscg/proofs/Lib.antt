@@ -1,4 +1,5 @@
 pub mod SpanLaws
+pub mod HeadLaws
 pub mod CopyLaws
 pub mod PieceLaws
 pub mod WalkLaws

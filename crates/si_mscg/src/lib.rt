@@ -15,6 +15,7 @@ ghost use Rattle.si_mscg.specs.Walking.{TellsHeads};
 use crate::walk::Walk;
 pub use si_flat::{Bindings, Split};
 use si_flat::{Cell, Pair};
+use si_unify::{have_same_symbol, is_same_variable};
 pub use spans::{set_spans, without_span};
 use std::alloc::{AllocError, Global};
 
@@ -48,26 +49,5 @@ fn have_same_heads(pair: &Pair<'_>, other: &Pair<'_>) -> bool
 pub fn have_same_head(one: Cell, other: Cell) -> bool
     ensures { result ≡ same_head_cell one other }
 {
-    match one {
-        Cell::App { sym, arity, .. } => match other {
-            Cell::App {
-                sym: s,
-                arity: a,
-                ..
-            } => sym == s && arity == a,
-            _ => false,
-        },
-        Cell::Query(m) => match other {
-            Cell::Query(n) => m == n,
-            _ => false,
-        },
-        Cell::Entry(m) => match other {
-            Cell::Entry(n) => m == n,
-            _ => false,
-        },
-        Cell::Ind(m) => match other {
-            Cell::Ind(n) => m == n,
-            _ => false,
-        },
-    }
+    have_same_symbol(one, other) || is_same_variable(one, other)
 }

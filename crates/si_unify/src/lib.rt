@@ -21,5 +21,5 @@ mod unifier;
 pub use scratch::Scratch;
 pub use slots::Slots;
 pub use solver::{solve, solve_with};
-pub use symbols::have_same_symbol;
+pub use symbols::{have_same_symbol, is_same_variable};
 pub use unbound::are_unbound;

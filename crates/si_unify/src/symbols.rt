@@ -1,6 +1,6 @@
-// The symbols of terms, told by their first cells.
-ghost use Rattle.std.specs.Prelude.{◌≡◌};
-ghost use Rattle.si_unify.specs.Symbols.{same_symbol};
+// The heads of terms, told by their first cells.
+ghost use Rattle.std.specs.Prelude.{◌≡◌, ◌↔◌, IsTrue};
+ghost use Rattle.si_unify.specs.Symbols.{same_symbol, IsSameVariable};
 
 use si_flat::Cell;
 
@@ -18,6 +18,19 @@ pub fn have_same_symbol(left: Cell, right: Cell) -> bool
                 ..
             },
         ) => sym == other_sym && arity == other_arity,
+        _ => false,
+    }
+}
+
+/// Whether the cells are those of one variable.
+#[inline(always)]
+pub fn is_same_variable(one: Cell, other: Cell) -> bool
+    ensures { IsTrue result ↔ IsSameVariable one other }
+{
+    match (one, other) {
+        (Cell::Query(number), Cell::Query(other)) => number == other,
+        (Cell::Entry(number), Cell::Entry(other)) => number == other,
+        (Cell::Ind(number), Cell::Ind(other)) => number == other,
         _ => false,
     }
 }

@@ -26,28 +26,26 @@ bind-requires-clause-unbound c =
     fresh.0 (ends.last, ends.last_stands) c.end_of-end.ensures.range
     (end_still_lacks c.args.slots.now c.args.trail.now.pairs c.args.left.now c.end_of-end.result.now c.in-Ind.number c.args.trail.now.slots c.requires.terms.ready c.mark.ensures.distinct fresh.0 ends fresh.1)
 
-pub returns-in-Ind-clause-met : goal.returns-in-Ind-clause-met
-returns-in-Ind-clause-met c =
-    end_met c.args.slots.now c.args.trail.now.pairs c.bind.new.self.pairs c.args.left.now c.end_of-end.result.now c.args.right.now Equal c.end_of-end.ensures.ends
-    (right_met c.args.slots.now c.args.trail.now.pairs c.bind.new.self.pairs (slot_of c.args.slots.now (ind c.in-Ind.number)) c.end_of-end.result.now c.args.right.now Equal
-    (variable_at c.args.slots.now (slot_of c.args.slots.now (ind c.in-Ind.number)) c.args.right.now c.requires.terms.right c.requires.terms.right_range (ap (free_slot c.args.slots.now) c.in-Ind.is))
-    (subst (λ l. HasMet c.args.slots.now c.args.trail.now.pairs l (slot_cells c.args.slots.now (slot_of c.args.slots.now (ind c.in-Ind.number))) c.end_of-end.result.now Equal) (sym (c.bind.ensures.pairs ∙ ap (λ k. c.args.trail.now.pairs ++ (k, c.end_of-end.result) ∷ []) c.indicator_slot.ensures)) (pair_met c.args.slots.now c.args.trail.now.pairs (slot_of c.args.slots.now (ind c.in-Ind.number)) c.end_of-end.result)))
-
-pub returns-in-Ind-clause-trail : goal.returns-in-Ind-clause-trail
-returns-in-Ind-clause-trail c = record {
-  grows = (_, c.bind.ensures.pairs);
-  ready =
-      let ends = c.end_of-end.ensures.ends in
-      let fresh = c.requires.fresh c.in-Ind.number c.in-Ind.is in
-      subst (AllowsSolving c.args.slots.now c.bind.new.self.pairs) (sym c.bind.ensures.slots)
-      (subst (λ l. AllowsSolving c.args.slots.now l c.args.trail.now.slots) (sym (c.bind.ensures.pairs ∙ ap (λ k. c.args.trail.now.pairs ++ (k, c.end_of-end.result) ∷ []) c.indicator_slot.ensures))
-      (fresh_ready c.args.slots.now c.args.trail.now.pairs c.in-Ind.number c.args.trail.now.slots c.end_of-end.result c.requires.terms.ready
-      (subst (CellIsInRange c.args.slots.now) c.in-Ind.is (in_range-at c.args.slots.now c.args.right.now 0 no_cell c.requires.terms.right_range (some_cell c.args.right.now c.requires.terms.right)))
-      fresh.0 (ends.last, ends.last_stands) c.end_of-end.ensures.range
-      (end_still_lacks c.args.slots.now c.args.trail.now.pairs c.args.left.now c.end_of-end.result.now c.in-Ind.number c.args.trail.now.slots c.requires.terms.ready c.mark.ensures.distinct fresh.0 ends fresh.1)));
-  count = c.bind.ensures.slots;
+pub returns-in-Ind : goal.returns-in-Ind
+returns-in-Ind c = record {
+  outcome =
+      end_met c.args.slots.now c.args.trail.now.pairs c.bind.new.self.pairs c.args.left.now c.end_of-end.result.now c.args.right.now Equal c.end_of-end.ensures.ends
+      (right_met c.args.slots.now c.args.trail.now.pairs c.bind.new.self.pairs (slot_of c.args.slots.now (ind c.in-Ind.number)) c.end_of-end.result.now c.args.right.now Equal
+      (variable_at c.args.slots.now (slot_of c.args.slots.now (ind c.in-Ind.number)) c.args.right.now c.requires.terms.right c.requires.terms.right_range (ap (free_slot c.args.slots.now) c.in-Ind.is))
+      (subst (λ l. HasMet c.args.slots.now c.args.trail.now.pairs l (slot_cells c.args.slots.now (slot_of c.args.slots.now (ind c.in-Ind.number))) c.end_of-end.result.now Equal) (sym (c.bind.ensures.pairs ∙ ap (λ k. c.args.trail.now.pairs ++ (k, c.end_of-end.result) ∷ []) c.indicator_slot.ensures)) (pair_met c.args.slots.now c.args.trail.now.pairs (slot_of c.args.slots.now (ind c.in-Ind.number)) c.end_of-end.result)));
+  trail = record {
+    grows = (_, c.bind.ensures.pairs);
+    ready =
+        let ends = c.end_of-end.ensures.ends in
+        let fresh = c.requires.fresh c.in-Ind.number c.in-Ind.is in
+        subst (AllowsSolving c.args.slots.now c.bind.new.self.pairs) (sym c.bind.ensures.slots)
+        (subst (λ l. AllowsSolving c.args.slots.now l c.args.trail.now.slots) (sym (c.bind.ensures.pairs ∙ ap (λ k. c.args.trail.now.pairs ++ (k, c.end_of-end.result) ∷ []) c.indicator_slot.ensures))
+        (fresh_ready c.args.slots.now c.args.trail.now.pairs c.in-Ind.number c.args.trail.now.slots c.end_of-end.result c.requires.terms.ready
+        (subst (CellIsInRange c.args.slots.now) c.in-Ind.is (in_range-at c.args.slots.now c.args.right.now 0 no_cell c.requires.terms.right_range (some_cell c.args.right.now c.requires.terms.right)))
+        fresh.0 (ends.last, ends.last_stands) c.end_of-end.ensures.range
+        (end_still_lacks c.args.slots.now c.args.trail.now.pairs c.args.left.now c.end_of-end.result.now c.in-Ind.number c.args.trail.now.slots c.requires.terms.ready c.mark.ensures.distinct fresh.0 ends fresh.1)));
+    count = c.bind.ensures.slots;
+  };
+  within = λ n values left right.
+      bound_within c.args.trail.now.pairs c.bind.new.self.pairs (slot_of c.args.slots.now (ind c.in-Ind.number)) c.end_of-end.result (c.bind.ensures.pairs ∙ ap (λ k. c.args.trail.now.pairs ++ (k, c.end_of-end.result) ∷ []) c.indicator_slot.ensures) n values (c.end_of-end.ensures.within n values left);
 }
-
-pub returns-in-Ind-clause-within : goal.returns-in-Ind-clause-within
-returns-in-Ind-clause-within c = λ n values left right.
-    bound_within c.args.trail.now.pairs c.bind.new.self.pairs (slot_of c.args.slots.now (ind c.in-Ind.number)) c.end_of-end.result (c.bind.ensures.pairs ∙ ap (λ k. c.args.trail.now.pairs ++ (k, c.end_of-end.result) ∷ []) c.indicator_slot.ensures) n values (c.end_of-end.ensures.within n values left)

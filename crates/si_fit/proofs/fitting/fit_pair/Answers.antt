@@ -16,7 +16,7 @@ pub returns-in-Equal-clause-solved : goal.returns-in-Equal-clause-solved
 returns-in-Equal-clause-solved c =
     met_solved c.args.slots.now c.args.trail.now.pairs c.fill_any.new.trail.pairs c.args.left.now c.args.right.now
     c.fill_any.new.trail.slots
-    (end_met c.args.slots.now c.args.trail.now.pairs c.fill_any.new.trail.pairs c.args.left.now c.end_of_indicator-end.result.now c.args.right.now Equal c.end_of_indicator-end.ensures.ends c.in-Equal.ensures.met)
+    (end_met c.args.slots.now c.args.trail.now.pairs c.fill_any.new.trail.pairs c.args.left.now c.end_of_indicator-end.result.now c.args.right.now Equal c.end_of_indicator-end.ensures.ends c.in-Equal.ensures.outcome)
     c.fill_any.ensures.trail.ready c.mark.ensures.distinct
 
 pub fill_any-requires-clause-terms : goal.fill_any-requires-clause-terms
@@ -38,7 +38,7 @@ fill_any-requires-clause-fresh c =
 pub returns-in-Clash-clause-solved : goal.returns-in-Clash-clause-solved
 returns-in-Clash-clause-solved c =
     clash_unsolved c.args.slots.now c.args.trail.now.pairs c.fill_any.new.trail.pairs c.args.left.now c.args.right.now
-    (end_met c.args.slots.now c.args.trail.now.pairs c.fill_any.new.trail.pairs c.args.left.now c.end_of_indicator-end.result.now c.args.right.now Clash c.end_of_indicator-end.ensures.ends c.in-Clash.ensures.met)
+    (end_met c.args.slots.now c.args.trail.now.pairs c.fill_any.new.trail.pairs c.args.left.now c.end_of_indicator-end.result.now c.args.right.now Clash c.end_of_indicator-end.ensures.ends c.in-Clash.ensures.outcome)
 
 pub returns-in-Unknown-clause-solved : goal.returns-in-Unknown-clause-solved
 returns-in-Unknown-clause-solved c =

@@ -1,4 +1,4 @@
-use Rattle.std.proofs.Common.{◌≡◌, ◌+◌, ◌-◌, ◌*◌, ◌≤◌, length}
+use Rattle.std.proofs.Common.{◌+◌, ◌-◌, ◌*◌, ◌≤◌, length}
 use Rattle.si_fit.proofs.WalkLaws.{IsWalking}
 use Rattle.si_fit.proofs.walking.+walking.Given as goal
 
@@ -17,16 +17,14 @@ decreases-meet_unbound l = 4 * l.budget.now + 1
 abbrev pub decreases-follow : goal.decreases-follow
 decreases-follow l = 4 * l.budget.now
 
-pub record Invariant (walking within slots few : Type 0) : Type 0 where
+pub record Invariant (walking within few : Type 0) : Type 0 where
   pub is_walking : walking
   pub left_within : within
-  pub same_slots : slots
   pub fewer : few
 
 abbrev pub invariant-walk-loop-j : goal.invariant-walk-loop-j
 invariant-walk-loop-j l =
-    Invariant (IsWalking l.slots l.left l.right l.fn.trail.pairs l.fn.trail.slots l.trail.pairs l.i l.j) (l.i ≤ length l.left)
-    (l.trail.slots ≡ l.fn.trail.slots) (l.budget ≤ l.fn.budget)
+    Invariant (IsWalking l.slots l.left l.right l.fn.trail l.trail l.i l.j) (l.i ≤ length l.left) (l.budget ≤ l.fn.budget)
 
 abbrev pub decreases-walk-loop-j : goal.decreases-walk-loop-j
 decreases-walk-loop-j l = length l.right - l.j

@@ -29,9 +29,9 @@ impl PostingCount {
         }
     }
 
-    /// Counts one more, for which a slot is about to be pushed. Where a long list would stop rising,
-    /// its places are hashed: as many as came since it was last short, so each pays for a few. At an
-    /// error all is as before.
+    /// Counts one more, for which a slot is about to be pushed. Where a long list would stop
+    /// rising, its places are hashed: as many as came since it was last short, so each pays for a
+    /// few. At an error all is as before.
     pub(crate) fn add(
         &mut self,
         alloc: Global,

@@ -1,5 +1,5 @@
 // Where the postings of a list stand, hashed.
-ghost use Rattle.std.specs.Prelude.{◌≤◌};
+ghost use Rattle.std.specs.Prelude.{◌<◌};
 
 use crate::postings::{Slot, is_at};
 use si_legal::Posting;
@@ -15,17 +15,21 @@ const LEFT: u32 = u32::MAX - 1;
 /// Where postings stand, hashed by open addressing with linear probing (Knuth, The Art of Computer
 /// Programming, volume 3, section 6.4): the place of a posting is noted in the first part of the
 /// table in which none is, from the one on that the posting names. What a posting left is noted
-/// anew, so one that goes and comes again takes no further part. Nothing is promised of a place: who
-/// takes it looks whether the posting stands there.
+/// anew, so one that goes and comes again takes no further part. Nothing is promised of a place:
+/// who takes it looks whether the posting stands there.
 #[derive(Drop)]
 pub(crate) struct HashedPlaces {
     table: Vec<u32>,
 }
 
 impl Model for HashedPlaces {
+    ghost use Rattle.std.specs.Prelude.{◌<◌, length};
+
     ghost Value = { Unit {0} };
 
     ghost view = { λ p. tt };
+
+    ghost invariant = { λ p. 0 < length p.table.items };
 }
 
 impl HashedPlaces {
@@ -106,17 +110,17 @@ impl HashedPlaces {
 
 // The part of a table of this size from which on a posting is looked for.
 fn first_for(posting: Posting, size: usize) -> usize
-    ensures { result ≤ size }
+    requires { 0 < size }
+    ensures { result < size }
 {
-    if size == 0 {
-        return 0;
-    }
     let hash = (posting.clause as u64).wrapping_mul(0x9e37_79b9_7f4a_7c15)
         ^ u64::from(posting.entry).wrapping_mul(0xc2b2_ae3d_27d4_eb4f);
     (hash ^ hash >> 32) as usize % size
 }
 
 // How large a table is made for one place more than there are slots.
-fn size_for(slots: usize) -> usize {
+fn size_for(slots: usize) -> usize
+    ensures { 0 < result }
+{
     slots.saturating_mul(2).saturating_add(2)
 }

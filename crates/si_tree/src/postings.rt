@@ -1,5 +1,5 @@
 // The postings of a leaf.
-ghost use Rattle.std.specs.Prelude.{◌≡◌, ◌<◌, ◌≤◌, ◌^◌, ◌⊎◌, [], ◌∷◌, ◌++◌, ◌+◌, ◌==◌, IfOk, IsFalse, IsTrue, OnErr, OnOk, false, length, true, vec_capacity, vec_len, Some, slice_get};
+ghost use Rattle.std.specs.Prelude.{◌≡◌, ◌↔◌, ◌<◌, ◌≤◌, ◌^◌, ◌⊎◌, [], ◌∷◌, ◌++◌, ◌+◌, ◌==◌, IfOk, IsFalse, IsTrue, OnErr, OnOk, false, length, true, vec_capacity, vec_len, Some, slice_get};
 ghost use Rattle.si_defs.specs.Substitutions.{IsAmong};
 ghost use Rattle.si_legal.specs.declared.Posting as posting;
 ghost use Rattle.si_tree.specs.Changes.{IsWithout};
@@ -290,7 +290,10 @@ fn empty(slots: &mut Vec<Slot>, place: usize)
 }
 
 /// Whether one posting may stand before another where they rise.
-pub(crate) fn are_in_order(one: Posting, other: Posting) -> bool {
+pub(crate) fn are_in_order(one: Posting, other: Posting) -> bool
+    ensures { IsTrue result ↔ (one.clause < other.clause)
+        ⊎ ((one.clause ≡ other.clause) × (one.entry ≤ other.entry)) }
+{
     one.clause < other.clause || one.clause == other.clause && one.entry <= other.entry
 }
 

@@ -59,8 +59,8 @@ impl Tree {
         Ok(())
     }
 
-    /// Whether so many numbers were given since the last renumbering that they pay for the next one,
-    /// which visits each node once, with all its cells.
+    /// Whether so many numbers were given since the last renumbering that they pay for the next
+    /// one, which visits each node once, with all its cells.
     pub fn should_renumber(&self) -> bool
         ensures { IsTrue result → node_count self.now + SPARE_NUMBERS < self.now.next }
     {

@@ -62,7 +62,9 @@ fn to_join(tree: &Tree, leaf: NodeId) -> Option<(NodeId, NodeId)>
     ensures none { IfNone result (MayDropLeaf tree.now leaf) }
 {
     let root = tree.root();
-    let parent = tree.parent(leaf)?;
+    let Some(parent) = tree.parent(leaf) else {
+        unreachable!()
+    };
     if parent == root {
         return None;
     }

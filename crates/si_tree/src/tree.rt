@@ -1,5 +1,5 @@
 // A tree as its nodes in a slab.
-ghost use Rattle.std.specs.Prelude.{◌≡◌, ◌<◌, ◌≤◌, ◌^◌, ℕ, IfOk, IfSome, IfNone, OnErr, OnOk, Some, length, slice_get};
+ghost use Rattle.std.specs.Prelude.{◌≡◌, ◌<◌, ◌≤◌, ◌^◌, ℕ, IfOk, IfSome, IfNone, OnErr, OnOk, None, Some, length, slice_get};
 ghost use Rattle.slab.specs.Slab.{HasRoomFor};
 ghost use Rattle.si_flat.specs.Rows.{AreWhole};
 ghost use Rattle.si_legal.specs.Bindings.{StandForBindings};
@@ -110,7 +110,9 @@ impl Tree {
     /// The node that has this one as a child, and none at the root.
     pub fn parent(&self, node: NodeId) -> Option<NodeId>
         requires { IsNode self.now node }
-        ensures { AtNode self.now node (λ n. result ≡ n.parent) }
+        ensures parent { AtNode self.now node (λ n. result ≡ n.parent) }
+        ensures none { IfNone result (node ≡ self.now.root) }
+        ensures root { node ≡ self.now.root → result ≡ None }
     {
         self.nodes[node.key as usize].parent()
     }

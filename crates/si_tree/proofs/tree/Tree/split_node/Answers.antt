@@ -69,7 +69,7 @@ put_between-added-requires c =
     let one = head_told c.args.split.rest_node first head c.requires.whole.rest_node (sym c.head_at.ensures ∙ c.in-Some-head_at.is) in
     let two = head_told c.args.split.rest_new first new_head c.requires.whole.rest_new (sym c.head_at-2.ensures ∙ c.in-Some-head_at-2.is) in
     may_put old c.args.node c.in-Some.parent _ _ _ c.in_ok-fork.fork new_head kept may
-    (parent_known _ _ _ _ _ may c.parent.result c.in-Some.parent (subst (λ t. AtNode t c.args.node (λ n. c.parent.result ≡ n.parent)) (sym same) c.parent.ensures) c.in-Some.is)
+    (parent_known _ _ _ _ _ may c.parent.result c.in-Some.parent (subst (λ t. AtNode t c.args.node (λ n. c.parent.result ≡ n.parent)) (sym same) c.parent.ensures.parent) c.in-Some.is)
     c.in_ok-reserve_nodes.ensures.room c.in_ok-reserve_nodes.ensures.named c.in_ok-fork.ensures.room
     (λ a. heads_apart _ _ _ _ _ kept.legal may first head new_head one.0 two.0 one.1 one.2 two.1 two.2 (subst (λ hs. IsAmong hs new_head) c.in_ok-fork.ensures.heads a))
 
@@ -106,7 +106,7 @@ is_split c =
       put = c.put_between-added.ensures;
       is_fork = c.in_ok-fork.ensures;
       is_leaf = subst (λ bs. IsLeafWith bs c.args.posting c.in_ok-leaf.leaf) c.in_ok-bindings.ensures c.in_ok-leaf.ensures.leaf;
-      with_parent = parent_known _ _ _ _ _ may c.parent.result c.in-Some.parent (subst (λ t. AtNode t c.args.node (λ n. c.parent.result ≡ n.parent)) (sym (same_tree c)) c.parent.ensures) c.in-Some.is;
+      with_parent = parent_known _ _ _ _ _ may c.parent.result c.in-Some.parent (subst (λ t. AtNode t c.args.node (λ n. c.parent.result ≡ n.parent)) (sym (same_tree c)) c.parent.ensures.parent) c.in-Some.is;
       first_left = left.is;
       root = refl;
       next = c.next_after-next.ensures;

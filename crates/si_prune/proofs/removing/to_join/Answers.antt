@@ -32,7 +32,7 @@ returns-in_err-other-clause-none c =
     with_more c.args.tree.now c.args.leaf c.in-Some.parent c.root-root.ensures.legal c.requires below c.children.result.now c.children.ensures
     (λ e. differ (sym (eq-eqb _ _ (e ∙ sym c.root-root.ensures.root)) ∙ sym c.eq.ensures ∙ c.if-eq.false))
     c.in_err-other.ensures.none in
-    elim c.from_residual-in_err-other.result as (λ o. IfNone o (MayDropLeaf c.args.tree.now c.args.leaf)) [ None ↦ may | Some pair ↦ tt ] where
+    elim c.from_residual.result as (λ o. IfNone o (MayDropLeaf c.args.tree.now c.args.leaf)) [ None ↦ may | Some pair ↦ tt ] where
       differ : true ≡ false → ⊥
       differ e = cc
 

@@ -14,7 +14,7 @@ use Rattle.si_lanes.specs.Rows.{ArePositions, AppendsPositions}
 use Rattle.si_index.specs.Kept.{clauses_of}
 use Rattle.si_defs.specs.Symbols.{Symbol, Numbering}
 use Rattle.si_flat.specs.Numbered.{number_in}
-use Rattle.si_screen.specs.ClauseRows.{IsRowOf, with_extra}
+use Rattle.si_screen.specs.ClauseRows.{IsRowOf, lacking, with_extra}
 use Rattle.si_screen.proofs.MapLaws.{rows_follow}
 use Rattle.si_screen.proofs.RowLaws.{row_with}
 use Rattle.si_index.specs.Searching.{IsKnownClause}
@@ -213,5 +213,5 @@ pub screened_named : (numbers : Numbering) (direction : Direction) (formula : Li
     → AllByRecursion (IsKnownClause numbers) clauses → clauses_of (placed_items slots) ≡ clauses → PlacesRise slots
     → ArePassing numbers direction formula rows qs → TriesSlots (IsMapIn direction formula) slots qs [] new → AreMappedFrom (IsMapIn direction formula) 0 clauses new
 screened_named numbers direction formula clauses slots rows qs new have known same rise passing tries =
-    let screened = are_screened numbers passing.of_formula.0 direction formula slots rows passing.row have (subst (AllByRecursion (IsKnownClause numbers)) (sym same) known) passing.of_formula.1 rise in
+    let screened = are_screened numbers (lacking numbers formula) direction formula slots rows passing.row have (subst (AllByRecursion (IsKnownClause numbers)) (sym same) known) passing.of_formula rise in
     subst (λ cs. AreMappedFrom (IsMapIn direction formula) 0 cs new) same (all_named (IsMapIn direction formula) (PassesIn direction passing.row) slots rise rows screened qs new passing.appended tries)

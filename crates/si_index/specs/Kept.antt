@@ -13,6 +13,7 @@ use Rattle.si_state.specs.States.{Rules, rules_code}
 use Rattle.si_held.specs.TwoTrees.{TwoTrees, Hold}
 use Rattle.si_tree.specs.NewTrees.{IsRootAlone}
 use Rattle.si_forest.specs.Codes.{two_trees_code}
+use Rattle.si_forest.specs.Pairs.{LoseEach}
 use Rattle.si_term.specs.Meaning.{clause_of}
 use Rattle.si_term.specs.declared.clause.Clause as term
 
@@ -62,6 +63,10 @@ NumbersExactly numbers clauses =
 -- the trees hold the entries of exactly the kept clauses
 abbrev pub TreesHold : Kept → Type 0
 TreesHold k = Hold k.numbers (kept_clauses k) k.trees
+
+-- the trees lose the postings of one clause, each as one that goes alone
+abbrev pub TreesLose : Kept → Kept → Type 0
+TreesLose old new = (key : ℕ) × IsAmong old.keys key × LoseEach key old.trees new.trees
 
 -- nothing is kept, and each tree is the root alone
 pub record IsEmpty (rules : Rules) (k : Kept) : Type 0 where

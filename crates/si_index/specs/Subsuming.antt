@@ -3,7 +3,7 @@
 use Rattle.std.specs.Prelude.{◌≡◌, ◌⊎◌, ℕ, ◌≤◌, suc, List, [], ◌∷◌, ◌++◌, length, slice_get, Some}
 use Rattle.std.specs.List.{AllByRecursion}
 use Rattle.si_defs.specs.Clauses.{Literal, Clause}
-use Rattle.si_defs.specs.Symbols.{Symbol, Numbering, IsNumbering}
+use Rattle.si_defs.specs.Symbols.{Numbering, IsNumbering}
 use Rattle.si_defs.specs.declared.TheConstants.{MOST_OCCURRENCES}
 use Rattle.si_state.specs.Signatures.{numbering}
 use Rattle.si_state.specs.Subsumption.{IsMap, IsLeast}
@@ -15,7 +15,7 @@ use Rattle.si_term.specs.Meaning.{clause_of}
 use Rattle.si_term.specs.declared.clause.Clause as term
 use Rattle.si_keyed.specs.Placed.{placed_items, HasPlace, PlacesRise}
 use Rattle.si_lanes.specs.Rows.{IsSubset, AppendsPositions}
-use Rattle.si_screen.specs.ClauseRows.{IsRowOf, with_extra}
+use Rattle.si_screen.specs.ClauseRows.{IsRowOf, lacking, with_extra}
 use Rattle.si_index.specs.Kept.{clauses_of}
 use Rattle.si_index.specs.Searching.{IsKnownClause}
 use Rattle.si_index.specs.Slots.{Slots}
@@ -79,7 +79,7 @@ PassesIn FromFormula formula row = IsSubset formula row
 -- it is the row of the formula, with numbers after these for the symbols that have none
 abbrev pub IsFormulaRow : Numbering → List Literal → List ℕ → Type 0
 IsFormulaRow numbers formula row =
-    (extra : List Symbol) × IsRowOf (number_in (with_extra numbers extra)) formula row
+    IsRowOf (number_in (with_extra numbers (lacking numbers formula))) formula row
 
 -- these are the slots whose rows allow a map
 pub record ArePassing (numbers : Numbering) (direction : Direction) (formula : List Literal)

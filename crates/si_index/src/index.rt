@@ -12,7 +12,7 @@ ghost use Rattle.si_term.specs.Meaning.{clause_of, name_of};
 ghost use Rattle.si_sign.specs.Stores.{IsStored, Rejects};
 ghost use Rattle.si_keyed.specs.Keyed.{item_keys, HasKey};
 ghost use Rattle.si_tree.specs.Reading.{counts_of};
-ghost use Rattle.si_index.specs.Kept.{AreKeyed, IsEmpty, KeysStay, NumbersExactly, NumbersStay, TreesHold, clauses_of};
+ghost use Rattle.si_index.specs.Kept.{AreKeyed, IsEmpty, KeysStay, NumbersExactly, NumbersStay, TreesHold, TreesLose, clauses_of};
 ghost use Rattle.si_index.specs.Engines.{TreesAnswer};
 ghost use Rattle.si_index.specs.Register.{IsPut, HasPut};
 ghost use Rattle.si_index.specs.Stored.{AreHeld, HaveRows, MayKeep};
@@ -319,6 +319,7 @@ impl ClauseStore for Index {
         ensures trees { TreesHold self.new }
         ensures numbers { IfSome result (λ n. NumbersStay self.old self.new) }
         ensures keys { IfSome result (λ n. KeysStay self.old self.new) }
+        ensures postings { IfSome result (λ n. TreesLose self.old self.new) }
         ensures same { IfNone result (self.new ≡ self.old) }
     {
         let key = self.register.names.get(&self.clauses, name)?;
@@ -339,6 +340,7 @@ impl ClauseStore for Index {
         ensures trees { TreesHold self.new }
         ensures numbers { IfSome result (λ n. NumbersStay self.old self.new) }
         ensures keys { IfSome result (λ n. KeysStay self.old self.new) }
+        ensures postings { IfSome result (λ n. TreesLose self.old self.new) }
         ensures same { IfNone result (self.new ≡ self.old) }
     {
         let key = self.clauses.last_key()?;

@@ -1,7 +1,9 @@
 use Rattle.std.proofs.Common.{◌≡◌, ◌∷◌, ◌++◌, sym, subst}
+use Rattle.si_defs.specs.Substitutions.{IsAmong}
 use Rattle.si_state.specs.States.{limited_to}
 use Rattle.si_state.specs.Acceptance.{IsTaken}
 use Rattle.si_term.specs.Meaning.{clause_of, name_of}
+use Rattle.si_forest.specs.Pairs.{LoseEach}
 use Rattle.si_index.specs.Kept.{Kept, KeysStay, TreesHold, clauses_of}
 use Rattle.si_index.specs.Names.{key_of_name}
 use Rattle.si_index.proofs.KeyStays.{kept_as}
@@ -84,3 +86,11 @@ returns-clause-keys c =
     subst (λ (k : Kept). KeysStay k (kept_as c.remove-clause.new.self.items)) c.self.view_is
     (keys_less (limited_to c.self.inside.limit) c.self.inside.register c.self.inside.clauses.items c.in_ok-key.key c.remove-clause.result c.remove-clause.new.self.items c.self.invariant.0 c.remove-clause.ensures.taken
     c.leave.new.self.names c.leave.ensures.leaves.name)
+
+pub returns-clause-postings : goal.returns-clause-postings
+returns-clause-postings c = (
+  c.in_ok-key.key,
+  subst (λ (k : Kept). IsAmong k.keys c.in_ok-key.key) c.self.view_is
+      (c.self.invariant.0.registered.names.there (name_of c.args.name.now) c.in_ok-key.key (sym c.in_ok-key.ensures)),
+  subst (λ (k : Kept). LoseEach c.in_ok-key.key k.trees c.remove_clause.new.self) c.self.view_is c.remove_clause.ensures.each,
+)

@@ -1,8 +1,10 @@
 use Rattle.std.proofs.Common.{◌≡◌, ◌-◌, [], ◌∷◌, ◌++◌, length, subst}
 use Rattle.si_defs.proofs.ListLaws.{get_among}
+use Rattle.si_defs.specs.Substitutions.{IsAmong}
 use Rattle.si_state.specs.States.{limited_to}
 use Rattle.si_term.specs.Meaning.{clause_of}
 use Rattle.si_keyed.specs.Keyed.{item_keys}
+use Rattle.si_forest.specs.Pairs.{LoseEach}
 use Rattle.si_index.specs.Kept.{Kept, KeysStay, clauses_of}
 use Rattle.si_index.proofs.KeyStays.{kept_as}
 use Rattle.si_index.proofs.HeldClauses.{left_held, trees_hold}
@@ -61,3 +63,11 @@ returns-clause-keys c =
     subst (λ (k : Kept). KeysStay k (kept_as c.remove-clause.new.self.items)) c.self.view_is
     (keys_less (limited_to c.self.inside.limit) c.self.inside.register c.self.inside.clauses.items c.in_ok-key.key c.remove-clause.result c.remove-clause.new.self.items c.self.invariant.0 c.remove-clause.ensures.taken
     c.leave.new.self.names c.leave.ensures.leaves.name)
+
+pub returns-clause-postings : goal.returns-clause-postings
+returns-clause-postings c = (
+  c.in_ok-key.key,
+  subst (λ (k : Kept). IsAmong k.keys c.in_ok-key.key) c.self.view_is
+      (get_among (item_keys c.self.inside.clauses.items) (length c.self.inside.clauses.items - 1) c.in_ok-key.key c.in_ok-key.ensures.some),
+  subst (λ (k : Kept). LoseEach c.in_ok-key.key k.trees c.remove_clause.new.self) c.self.view_is c.remove_clause.ensures.each,
+)

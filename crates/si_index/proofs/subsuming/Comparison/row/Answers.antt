@@ -3,7 +3,7 @@ use Rattle.si_defs.specs.Clauses.{AreSoundLiterals}
 use Rattle.si_state.specs.Signatures.{numbering}
 use Rattle.si_term.specs.Meaning.{literal_of}
 use Rattle.si_flat.specs.Numbered.{number_in}
-use Rattle.si_screen.specs.ClauseRows.{IsRowOf, with_extra}
+use Rattle.si_screen.specs.ClauseRows.{IsRowOf, lacking, with_extra}
 use Rattle.si_index.proofs.subsuming.Comparison.row.Goals as goal
 
 pub of-requires : goal.of-requires
@@ -11,6 +11,6 @@ of-requires c = record { sound = subst (λ ls. AreSoundLiterals (map literal_of 
 
 pub returns : goal.returns
 returns c =
-    let extra = c.in_ok-extra.extra in
-    let numbers = with_extra (numbering c.args.signature.now) extra in
-    (extra, subst (λ ls. IsRowOf (number_in numbers) (map literal_of ls) c.literals_row.result) c.as_slice-literals.ensures c.literals_row.ensures)
+    let numbers = numbering c.args.signature.now in
+    subst (λ ls. IsRowOf (number_in (with_extra numbers (lacking numbers (map literal_of ls)))) (map literal_of ls) c.literals_row.result) c.as_slice-literals.ensures
+    (subst (λ extra. IsRowOf (number_in (with_extra numbers extra)) (map literal_of c.as_slice-literals.result.now) c.literals_row.result) c.in_ok-extra.ensures.are c.literals_row.ensures)

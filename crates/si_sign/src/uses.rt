@@ -50,8 +50,8 @@ impl Uses {
     }
 
     /// The key of a symbol's kind and text. Where the symbol was found of late, it isn't looked for
-    /// in the map. The map is called at two places, so that it isn't inlined: most symbols are found
-    /// without it.
+    /// in the map. The map is called at two places, so that it isn't inlined: most symbols are
+    /// found without it.
     pub fn find(&self, symbol: &Sym) -> Option<usize>
         requires { IsUses self.now }
         ensures { result ≡ key_in self.now symbol.now.kind symbol.now.text }

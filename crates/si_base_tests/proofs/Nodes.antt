@@ -15,7 +15,7 @@ use Rattle.si_legal.specs.Descents.{SolvesBindings}
 use Rattle.si_legal.proofs.PathLaws.{one_node}
 use Rattle.si_changes.proofs.StoredLaws.{path_start}
 use Rattle.si_tree.specs.Reading.{IsNode, AtNode, children_of}
-use Rattle.si_descend.specs.Descending.{IsQuery, MayDescend, ShowsPath}
+use Rattle.si_descend.specs.Descending.{AreQueryCells, MayDescend, ShowsPath}
 use Rattle.si_base_tests.proofs.Vectors as vectors
 
 pub root_node : (tree : Tree Term) (root : ℕ) → IsLegal tree → root ≡ tree.root → IsNode tree root
@@ -40,7 +40,7 @@ pub child_below : (tree : Tree Term) (key child : ℕ) → IsChild tree key chil
 child_below tree key child is n has = ap (λ m. m.parent) (one_node tree child n is.0 has is.1) ∙ is.2
 
 -- ---- a descent
-pub g_of_variable : (cells : List Cell) → cells ≡ cells_of (vectors.g (terms.var (query 0))) → IsQuery cells
+pub g_of_variable : (cells : List Cell) → cells ≡ cells_of (vectors.g (terms.var (query 0))) → AreQueryCells cells
 g_of_variable cells e = (
   vectors.g (terms.var (query 0)),
   record {

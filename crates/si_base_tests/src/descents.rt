@@ -2,7 +2,7 @@
 ghost use Rattle.std.specs.Prelude.{◌≡◌};
 ghost use Rattle.si_tree.specs.NewTrees.{IsRootAlone};
 ghost use Rattle.si_defs.specs.declared.Relation.TheVariants.{Instances};
-ghost use Rattle.si_descend.specs.Descending.{IsQuery, MayDescend};
+ghost use Rattle.si_descend.specs.Descending.{AreQueryCells, MayDescend};
 ghost use Rattle.si_descend.specs.Lending.{IsTableFor};
 
 use crate::generalizations::G;
@@ -164,7 +164,7 @@ fn assert_asked<'a>(
     tree: &'a Tree,
     query: &'a Flat,
 ) -> Result<(), AllocError>
-    requires { IsQuery query.now }
+    requires { AreQueryCells query.now }
 {
     // So it is known that the tree is legal.
     tree.root();

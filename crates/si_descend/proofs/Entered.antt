@@ -15,9 +15,9 @@ use Rattle.si_legal.specs.Trees.{Node, HasNode, path_term}
 use Rattle.si_legal.specs.OpenNodes.{RenamesEntry}
 use Rattle.si_changes.proofs.Frames.{legal_nodes}
 use Rattle.si_descend.specs.declared.search.Search.{Search}
-use Rattle.si_descend.specs.Descending.{Freezes, HasRoom, Renames}
+use Rattle.si_descend.specs.Descending.{Freezes, HasSlotsForTree, Renames}
 use Rattle.si_fit.specs.Fitting.{HasFitted}
-use Rattle.si_descend.specs.Renaming.{FreezesQuery, bound_variables, IsRenaming, IsRenamingFirst, IsTaken, AreTaken}
+use Rattle.si_descend.specs.Renaming.{FreezesQuery, bound_variables, IsRenaming, IsRenamingFirst, IsTakenBefore, AreTaken}
 use Rattle.si_descend.specs.Searching.{IsReady, KeepsApart, NotesTaken, HasComeTo, HasEntered}
 use Rattle.si_descend.proofs.Entering.{numbered, entered_shows, entered_open, open_entered}
 use Rattle.si_descend.proofs.RenameLaws.{still_taken}
@@ -98,12 +98,12 @@ module _ (search : Search) (ready : IsReady search) (key : ℕ) (node : Node Ter
   pub known_taken : {T : Type 0} (known : ℕ) (b : Bool) (taken : Trail T) → HasFitted search.slots old new rows b → b ≡ true → search.relation ≡ Variants → known ≡ length old → Grows old new → NotesTaken search.relation search.slots old taken → AreTaken search.slots new known taken.pairs
   known_taken known b taken fits is variants e grows noted k =
       let fitted : HasFitted search.slots old new rows true = subst (HasFitted search.slots old new rows) is fits in
-      subst (λ n. IsTaken search.slots new n k (is_some (value_at taken.pairs k))) (sym e)
+      subst (λ n. IsTakenBefore search.slots new n k (is_some (value_at taken.pairs k))) (sym e)
       (still_taken search.slots old new grows (λ s h. ((fitted.1 s).0 h).0) k (is_some (value_at taken.pairs k)) ((variants_note search.relation search.slots old taken variants noted).0 k))
 
   module _ (variants : search.relation ≡ Variants) (count : ℕ) (solving : AllowsSolving search.slots new count) (distinct : HasDistinctSlots new) where
-    room : (q : Term) → StandsFor search.query.now q → HasRoom search.slots search.tree.now q
-    room q h = subst (HasRoom search.slots search.tree.now) (one_term search.query.now ready.term q ready.query.stands h) ready.room
+    room : (q : Term) → StandsFor search.query.now q → HasSlotsForTree search.slots search.tree.now q
+    room q h = subst (HasSlotsForTree search.slots search.tree.now) (one_term search.query.now ready.term q ready.query.stands h) ready.room
 
     pub entered_variants : (b c : Bool) → HasFitted search.slots old new rows b → b ≡ true → IsTrue c ↔ IsRenaming search.slots new → HasEntered search key new c
     entered_variants b true fits is tells =

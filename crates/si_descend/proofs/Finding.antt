@@ -6,7 +6,7 @@ use Rattle.si_flat.specs.Flattened.{IsNumberedBy}
 use Rattle.si_legal.specs.declared.Posting.{Posting}
 use Rattle.si_legal.specs.Trees.{Tree, Path, IsPath, PassesBy, path_term, IsLeaf}
 use Rattle.si_legal.specs.Legal.{IsLegal, IsLeafTerm, IsLegalContent}
-use Rattle.si_legal.specs.Descents.{IsAnswer}
+use Rattle.si_legal.specs.Descents.{IsAnswerBelow}
 use Rattle.si_legal.specs.OpenNodes.{IsOpen, IsOpenNode}
 use Rattle.si_legal.proofs.PathLaws.{one_path}
 use Rattle.si_changes.proofs.Frames.{legal_nodes}
@@ -35,7 +35,7 @@ module _ (tree : Tree Term) (legal : IsLegal tree) (relation : Relation) (q : Te
       let content = subst (IsLegalContent tree key ((key, l.node) ∷ h.above)) l.content h.content in
       subst IsLeafTerm (ap (λ a. path_term ((key, l.node) ∷ a)) same ∙ sym l.term) content.1
 
-  pub answer_open : (top : ℕ) (p : Posting) (h : IsAnswer tree top relation q p) → IsOpen relation q (path_term ((h.key, h.leaf.node) ∷ h.leaf.above))
+  pub answer_open : (top : ℕ) (p : Posting) (h : IsAnswerBelow tree top relation q p) → IsOpen relation q (path_term ((h.key, h.leaf.node) ∷ h.leaf.above))
   answer_open top p h =
       subst (IsOpen relation q) h.leaf.term
       ((open_relates q h.term numbered (leaf_numbered h.key h.term h.postings h.leaf).numbered relation).1 h.relates)

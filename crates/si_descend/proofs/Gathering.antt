@@ -7,7 +7,7 @@ use Rattle.si_defs.proofs.ListLaws.{among_front, among_back, among_parts}
 use Rattle.si_flat.specs.Cells.{Term, StandsFor}
 use Rattle.si_unify.proofs.Reading.{one_term}
 use Rattle.si_legal.specs.declared.Posting.{Posting}
-use Rattle.si_legal.specs.Descents.{IsAnswer}
+use Rattle.si_legal.specs.Descents.{IsAnswerBelow}
 use Rattle.si_legal.specs.Trees.{Content, inner, leaf, Node, Tree, HasNode, Path, IsPath, PassesBy, IsLeaf, path_term}
 use Rattle.si_legal.specs.Legal.{IsLegal, IsLegalContent}
 use Rattle.si_legal.specs.OpenNodes.{IsOpen}
@@ -101,7 +101,7 @@ module _ (search : Search) (ready : IsReady search) (top : ℕ) where
       (subst (λ r. IsOpen search.relation q (path_term r)) (one_path search.tree.now (Some key) p p' leads leads') is)
 
   -- ---- what is found in the end, and underway
-  answer_there : (tops keys : List ℕ) (ps : List Posting) → HasPassed search.tree.now (IsOpenAt search) top tops keys → HasGathered search.tree.now keys ps → (q : Term) → StandsFor search.query.now q → (p : Posting) → IsAmong ps p → IsAnswer search.tree.now top search.relation q p
+  answer_there : (tops keys : List ℕ) (ps : List Posting) → HasPassed search.tree.now (IsOpenAt search) top tops keys → HasGathered search.tree.now keys ps → (q : Term) → StandsFor search.query.now q → (p : Posting) → IsAmong ps p → IsAnswerBelow search.tree.now top search.relation q p
   answer_there tops keys ps passed gathered q h p a =
       let s = (gathered.exact p).0 a in
       let own = leaf_there search.tree.now ready.legal s.key s.node s.has p s.among in
@@ -137,7 +137,7 @@ module _ (search : Search) (ready : IsReady search) (top : ℕ) where
       };
     };
   } where
-    back : (q : Term) → StandsFor search.query.now q → (p : Posting) → IsAnswer search.tree.now top search.relation q p → IsAmong ps p
+    back : (q : Term) → StandsFor search.query.now q → (p : Posting) → IsAnswerBelow search.tree.now top search.relation q p → IsAmong ps p
     back q h p g =
         (gathered.exact p).1 (record {
           key = g.key;

@@ -34,7 +34,7 @@ use Rattle.si_fit.proofs.EndLaws.{value_same}
 use Rattle.si_descend.specs.declared.heads.Wanted.{Wanted}
 use Rattle.si_descend.specs.declared.search.Search.{Search}
 use Rattle.si_descend.specs.Descending.{Renames}
-use Rattle.si_descend.specs.Heads.{first_of, KeepsVariables, CannotMeet, CannotHave, SplitsBy, IsSplitOf, IsWanted, IsUnwanted, RulesOut}
+use Rattle.si_descend.specs.Heads.{first_cell_of, KeepsVariables, CannotMeet, CannotHave, SplitsBy, IsSplitOf, IsWanted, IsUnwanted, RulesOut}
 use Rattle.si_descend.specs.Searching.{IsReady, HasComeTo, IsClosedAt}
 use Rattle.si_descend.proofs.Below.{IsChildOf}
 use Rattle.si_descend.proofs.Along.{is_step}
@@ -42,7 +42,7 @@ use Rattle.si_descend.proofs.Openness.{open_solved, renames_fewer}
 use Rattle.si_descend.proofs.Visiting.{query_numbered}
 
 -- ---- terms by their first cell
-is_app : (t : Term) (s a n : ℕ) → first_of (cells_of t) ≡ cell.App s a n → (ts : Terms) × (t ≡ terms.app (record { number = s; arity = a }) ts)
+is_app : (t : Term) (s a n : ℕ) → first_cell_of (cells_of t) ≡ cell.App s a n → (ts : Terms) × (t ≡ terms.app (record { number = s; arity = a }) ts)
 is_app (terms.var (query k)) s a n e = absurd (by e) where
   by : cell.Query k ≡ cell.App s a n → ⊥
   by p = cc
@@ -59,7 +59,7 @@ is_app (terms.app r ts) s a n e = (ts, λ i. terms.app (record { number = number
   arity : cell.App r.number r.arity (1 + terms.sizes ts) ≡ cell.App s a n → r.arity ≡ a
   arity p = cc
 
-is_entry : (t : Term) (m : ℕ) → first_of (cells_of t) ≡ cell.Entry m → t ≡ terms.var (entry m)
+is_entry : (t : Term) (m : ℕ) → first_cell_of (cells_of t) ≡ cell.Entry m → t ≡ terms.var (entry m)
 is_entry (terms.var (query k)) m e = absurd (by e) where
   by : cell.Query k ≡ cell.Entry m → ⊥
   by p = cc
@@ -73,7 +73,7 @@ is_entry (terms.app r ts) m e = absurd (by e) where
   by : cell.App r.number r.arity (1 + terms.sizes ts) ≡ cell.Entry m → ⊥
   by p = cc
 
-is_query : (t : Term) (m : ℕ) → first_of (cells_of t) ≡ cell.Query m → t ≡ terms.var (query m)
+is_query : (t : Term) (m : ℕ) → first_cell_of (cells_of t) ≡ cell.Query m → t ≡ terms.var (query m)
 is_query (terms.var (query k)) m e = ap (λ i. terms.var (query i)) (by e) where
   by : cell.Query k ≡ cell.Query m → k ≡ m
   by p = cc
@@ -109,7 +109,7 @@ module _ (relation : Relation) (slots : Slots) where
         arity (terms.app l vs) = l.arity
 
   -- a symbol and a variable that is left
-  symbol_variable : (s a n m : ℕ) (x : Variable) (f : Substitution Symbol Variable) (t u : Term) → first_of (cells_of t) ≡ cell.App s a n → u ≡ terms.var (entry m) → image same_variable f (entry m) ≡ terms.var x → apply same_variable f t ≡ apply same_variable f u → ⊥
+  symbol_variable : (s a n m : ℕ) (x : Variable) (f : Substitution Symbol Variable) (t u : Term) → first_cell_of (cells_of t) ≡ cell.App s a n → u ≡ terms.var (entry m) → image same_variable f (entry m) ≡ terms.var x → apply same_variable f t ≡ apply same_variable f u → ⊥
   symbol_variable s a n m x f t u p is left e =
       let y = is_app t s a n p in
       app_var (record { number = s; arity = a }) (terms.substitute_all (image same_variable f) y.0) x
@@ -198,10 +198,10 @@ told_apart m n e = elim (eqb_tells m n) as (λ _. m ≡ n → ⊥) [
   by p = cc
 
 -- ---- the split of a node
-pub split_wanted : (search : Search) (key : ℕ) (pairs : Pairs) (count split : ℕ) (v : Bor (List Cell)) (end : List Cell) (first : Cell) → AllowsSolving search.slots pairs count → AtNode search.tree.now key (λ n. split_of n.content ≡ Some split) → Some v ≡ value_at pairs (search.slots.query + search.slots.entry + split) → EndsAt search.slots pairs v.now end → first ≡ first_of end → IsSplitOf search key pairs split first
+pub split_wanted : (search : Search) (key : ℕ) (pairs : Pairs) (count split : ℕ) (v : Bor (List Cell)) (end : List Cell) (first : Cell) → AllowsSolving search.slots pairs count → AtNode search.tree.now key (λ n. split_of n.content ≡ Some split) → Some v ≡ value_at pairs (search.slots.query + search.slots.entry + split) → EndsAt search.slots pairs v.now end → first ≡ first_cell_of end → IsSplitOf search key pairs split first
 split_wanted search key pairs count split v end first solving is bound ends e = (
   is,
-  (ends.last, ap first_of (sym ends.last_stands.cells_are) ∙ sym e, λ s h. value_same search.slots pairs (ind split) v ends.first range (sym bound) ends.first_stands (image same_variable s) h ∙ ends.same (image same_variable s) h),
+  (ends.last, ap first_cell_of (sym ends.last_stands.cells_are) ∙ sym e, λ s h. value_same search.slots pairs (ind split) v ends.first range (sym bound) ends.first_stands (image same_variable s) h ∙ ends.same (image same_variable s) h),
 ) where
   range : split < search.slots.inds
   range = let b = value_holds (IsBinding search.slots) pairs (search.slots.query + search.slots.entry + split) v solving.bindings (sym bound) in omega (arith, b.below)

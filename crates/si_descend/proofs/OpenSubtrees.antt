@@ -24,7 +24,7 @@ use Rattle.si_changes.proofs.OpenLaws.{path_node, root_no_child}
 use Rattle.si_changes.proofs.Permuted.{among_or_not}
 use Rattle.si_changes.proofs.ComposeLaws.{substituted_twice, is_substituted, applied_from, indicator_in}
 use Rattle.si_descend.specs.declared.search.Search.{Search}
-use Rattle.si_descend.specs.Descending.{Freezes, HasRoom, SolvesFrom}
+use Rattle.si_descend.specs.Descending.{Freezes, HasSlotsForTree, SolvesFrom}
 use Rattle.si_descend.specs.Searching.{IsReady, HasComeTo, IsOpenAt, AreOpenBelow, depth}
 use Rattle.si_descend.specs.Subtrees.{AreEndsOf, AreClear, AreAllOpen}
 use Rattle.si_descend.proofs.Tabulated.{tabulated, tabulated_on, substituted_none, cut_down}
@@ -121,7 +121,7 @@ mutual
   ]
 
 -- the variables of a path's term have slots
-entry_in_range : (tree : Tree Term) → HasLegalNodes tree → (slots : Slots) (q : Term) → HasRoom slots tree q → (from : Option ℕ) (p : Path) → IsPath tree from p → (m : ℕ) → IsAmong (terms.variables (path_term p)) (entry m) → IsInRange slots (entry m)
+entry_in_range : (tree : Tree Term) → HasLegalNodes tree → (slots : Slots) (q : Term) → HasSlotsForTree slots tree q → (from : Option ℕ) (p : Path) → IsPath tree from p → (m : ℕ) → IsAmong (terms.variables (path_term p)) (entry m) → IsInRange slots (entry m)
 entry_in_range tree legal slots q room from [] reached m (inl e) = absurd (by e) where
   by : ind 0 ≡ entry m → ⊥
   by p = cc
@@ -158,8 +158,8 @@ module _ (search : Search) (ready : IsReady search) (top : ℕ) (pairs : Pairs) 
     abbrev IsOpened : ℕ → Type 0
     IsOpened n = IsAmong (indicators (path_term above)) n
 
-    room : HasRoom search.slots search.tree.now q
-    room = subst (HasRoom search.slots search.tree.now) (one_term search.query.now ready.term q ready.query.stands stands) ready.room
+    room : HasSlotsForTree search.slots search.tree.now q
+    room = subst (HasSlotsForTree search.slots search.tree.now) (one_term search.query.now ready.term q ready.query.stands stands) ready.room
 
     of_entry : (n : ℕ) → IsOpened n → IsOfEntry search.slots (f.map (ind n))
     of_entry n a = record {

@@ -17,7 +17,7 @@ use Rattle.si_changes.proofs.Frames.{legal_nodes}
 use Rattle.si_tree.specs.Reading.{IsNode, children_of}
 use Rattle.si_descend.specs.declared.pending.Pending.{Pending}
 use Rattle.si_descend.specs.declared.search.Search.{Search}
-use Rattle.si_descend.specs.Pending.{ArePending, IsRisingFrom, cut, MayVisit, IsDue, AreToVisit, Marks, with_marks, pending_at}
+use Rattle.si_descend.specs.Pending.{ArePending, IsRisingFrom, cut_back, MayVisit, IsDue, AreToVisit, Marks, with_marks, pending_at}
 use Rattle.si_descend.specs.Searching.{IsReady, IsAboveNode, IsOpenAt, IsClosedAt}
 use Rattle.si_descend.proofs.Below.{IsChildOf}
 use Rattle.si_descend.proofs.RightLaws.{child_among, among_child}
@@ -111,22 +111,22 @@ module _ {X : Type 0} where
     by : Grows base new
     by = (drop (length base) new, sym (take-append-drop (length base) new) ∙ ap (λ l. l ++ drop (length base) new) kept)
 
-cut_all : {T : Type 0} (n : ℕ) (trail : Trail T) → n ≡ length trail.pairs → cut n trail ≡ trail
-cut_all n trail e = same_trail (cut n trail) trail refl (take_all n trail.pairs (omega (arith, e)))
+cut_all : {T : Type 0} (n : ℕ) (trail : Trail T) → n ≡ length trail.pairs → cut_back n trail ≡ trail
+cut_all n trail e = same_trail (cut_back n trail) trail refl (take_all n trail.pairs (omega (arith, e)))
 
-cut_same : {T : Type 0} (m n : ℕ) (old new : Trail T) → new.slots ≡ old.slots → m ≤ n → n ≤ length old.pairs → Grows (take n old.pairs) new.pairs → cut m new ≡ cut m old
-cut_same m n old new e less within grows = same_trail (cut m new) (cut m old) e (front_stays m n old.pairs new.pairs less within grows)
+cut_same : {T : Type 0} (m n : ℕ) (old new : Trail T) → new.slots ≡ old.slots → m ≤ n → n ≤ length old.pairs → Grows (take n old.pairs) new.pairs → cut_back m new ≡ cut_back m old
+cut_same m n old new e less within grows = same_trail (cut_back m new) (cut_back m old) e (front_stays m n old.pairs new.pairs less within grows)
 
 -- as long as it was, it is the trail of then
-pub undone : {T : Type 0} (n : ℕ) (old new : Trail T) → new.slots ≡ old.slots → new.pairs ≡ take n old.pairs → cut n old ≡ new
-undone n old new e f = same_trail (cut n old) new (sym e) (sym f)
+pub undone : {T : Type 0} (n : ℕ) (old new : Trail T) → new.slots ≡ old.slots → new.pairs ≡ take n old.pairs → cut_back n old ≡ new
+undone n old new e f = same_trail (cut_back n old) new (sym e) (sym f)
 
 module _ (search : Search) where
   pub due_at_once : (key : ℕ) (trail : Trail (Bor (List Cell))) (taken : Trail ⊤) → IsAboveNode search key trail taken → IsDue search trail taken (pending_at key trail taken)
   due_at_once key trail taken above = record {
     mark = omega arith;
     taken_mark = omega arith;
-    may = subst (λ t. IsAboveNode search key t (cut (length taken.pairs) taken)) (sym (cut_all (length trail.pairs) trail refl)) (subst (λ t. IsAboveNode search key trail t) (sym (cut_all (length taken.pairs) taken refl)) above);
+    may = subst (λ t. IsAboveNode search key t (cut_back (length taken.pairs) taken)) (sym (cut_all (length trail.pairs) trail refl)) (subst (λ t. IsAboveNode search key trail t) (sym (cut_all (length taken.pairs) taken refl)) above);
   }
 
   pub waiting_starts : (key : ℕ) (trail : Trail (Bor (List Cell))) (taken : Trail ⊤) (entries : List Pending) → entries ≡ pending_at key trail taken ∷ [] → IsAboveNode search key trail taken → ArePending search trail.pairs taken.pairs trail taken entries
@@ -166,8 +166,8 @@ module _ (search : Search) where
         stays p d b is = record {
           mark = omega (arith, b.0, no_shorter next.mark old.pairs new.pairs is.mark more);
           taken_mark = omega (arith, b.1, no_shorter next.taken_mark before.pairs after.pairs is.taken_mark taken_more);
-          may = subst (λ t. MayVisit search p.node t (cut p.taken_mark after) p.whole) (sym (cut_same p.mark next.mark old new e b.0 is.mark more))
-              (subst (λ t. MayVisit search p.node (cut p.mark old) t p.whole) (sym (cut_same p.taken_mark next.taken_mark before after f b.1 is.taken_mark taken_more)) d.may);
+          may = subst (λ t. MayVisit search p.node t (cut_back p.taken_mark after) p.whole) (sym (cut_same p.mark next.mark old new e b.0 is.mark more))
+              (subst (λ t. MayVisit search p.node (cut_back p.mark old) t p.whole) (sym (cut_same p.taken_mark next.taken_mark before after f b.1 is.taken_mark taken_more)) d.may);
         }
 
 -- ---- nodes

@@ -10,7 +10,7 @@ use Rattle.si_unify.specs.declared.slots.Slots.{Slots}
 use Rattle.si_tree.specs.declared.node.Head.{Head}
 use Rattle.si_tree.specs.declared.node.Head.TheVariants.{Sym, Var}
 use Rattle.si_tree.specs.Rights.{cell_head}
-use Rattle.si_descend.specs.Heads.{first_of, CannotMeet, KeepsVariables}
+use Rattle.si_descend.specs.Heads.{first_cell_of, CannotMeet, KeepsVariables}
 use Rattle.si_descend.specs.Attempts.{head_at, HasHeadBelow, IsPlaceOf, AreHeadsFor}
 use Rattle.si_descend.proofs.HeadLaws.{symbols_apart, symbol_entry, entry_symbol, query_symbol, entries_apart}
 
@@ -18,7 +18,7 @@ use Rattle.si_descend.proofs.HeadLaws.{symbols_apart, symbol_entry, entry_symbol
 -- begins so
 abbrev HasPlaceOrNone : Relation → Slots → Cell → ℕ → Term → Type 0
 HasPlaceOrNone relation slots first end t =
-    ((place : ℕ) × (place < end) × IsPlaceOf first t place) ⊎ CannotMeet relation slots first (first_of (cells_of t))
+    ((place : ℕ) × (place < end) × IsPlaceOf first t place) ⊎ CannotMeet relation slots first (first_cell_of (cells_of t))
 
 -- ---- no place twice
 one_place : (first : Cell) → ((m : ℕ) → cell_head first ≡ Some (Var m) → ⊥) → (i j : ℕ) (h : Head) → head_at first i ≡ Some h → head_at first j ≡ Some h → i ≡ j

@@ -19,7 +19,7 @@ use Rattle.si_unify.proofs.Solutions.{lt_tells, entry_slot, same_number}
 use Rattle.si_legal.specs.OpenNodes.{RenamesEntry}
 use Rattle.si_descend.specs.declared.variants.Became.TheVariants.{NoEntry, Variable as Same, Term as Other}
 use Rattle.si_fit.specs.Ends.{EndsAt}
-use Rattle.si_descend.specs.Renaming.{FreezesQuery, bound_variables, IsRenamingFirst, IsRenaming, BindsEntry, HasBecome, IsTaken, AreTaken, Takes}
+use Rattle.si_descend.specs.Renaming.{FreezesQuery, bound_variables, IsRenamingFirst, IsRenaming, BindsEntry, HasBecome, IsTakenBefore, AreTaken, Takes}
 use Rattle.si_fit.proofs.EndLaws.{no_cell, value_same}
 use Rattle.si_descend.proofs.FreeLaws.{value_at-last, value_at-others, is_free, some_solution}
 
@@ -194,7 +194,7 @@ module _ (slots : Slots) (pairs : Pairs) (count : ℕ) (frozen : FreezesQuery sl
           ];
         })
 
-    pub more_apart : (k : ℕ) → HasBecome slots pairs n (Same k) → IsTaken slots pairs n k false → IsRenamingFirst slots pairs (n + 1)
+    pub more_apart : (k : ℕ) → HasBecome slots pairs n (Same k) → IsTakenBefore slots pairs n k false → IsRenamingFirst slots pairs (n + 1)
     more_apart q (l, own, is_query) free s is =
         let old = from_list n s (known s is) in
         let here : (m : ℕ) → BindsEntry slots pairs n m → image same_variable s (entry m) ≡ terms.var (query q) = λ m b. ap (λ i. image same_variable s (entry i)) (one_entry n m l b own) ∙ is_query s is in
@@ -218,14 +218,14 @@ module _ (slots : Slots) (pairs : Pairs) (count : ℕ) (frozen : FreezesQuery sl
     pub never_more : HasBecome slots pairs n Other → IsRenamingFirst slots pairs (n + 1) → ⊥
     never_more (m, b, (s, is, other)) h = let y = (from_list (n + 1) s (h s is)).renames n m (omega arith) b in other y.0 y.1
 
-    pub never_taken : (k : ℕ) → HasBecome slots pairs n (Same k) → IsTaken slots pairs n k true → IsRenamingFirst slots pairs (n + 1) → ⊥
+    pub never_taken : (k : ℕ) → HasBecome slots pairs n (Same k) → IsTakenBefore slots pairs n k true → IsRenamingFirst slots pairs (n + 1) → ⊥
     never_taken q (l, own, is_query) (j, less, (m, b, is_too)) h =
         let s = solution in
         let same : m ≡ l = (from_list (n + 1) s.0 (h s.0 s.1)).apart j n m l (omega (arith, less)) (omega arith) b own (is_too s.0 s.1 ∙ sym (is_query s.0 s.1)) in
         omega (arith, less, one_number j n l (subst (BindsEntry slots pairs j) same b) own)
 
     -- ---- what is taken then
-    more_unless : (b : Bool) (k : ℕ) → ((m : ℕ) → BindsEntry slots pairs n m → (s : Substitution Symbol Variable) → IsSolution slots pairs s → image same_variable s (entry m) ≡ terms.var (query k) → ⊥) → IsTaken slots pairs n k b → IsTaken slots pairs (n + 1) k b
+    more_unless : (b : Bool) (k : ℕ) → ((m : ℕ) → BindsEntry slots pairs n m → (s : Substitution Symbol Variable) → IsSolution slots pairs s → image same_variable s (entry m) ≡ terms.var (query k) → ⊥) → IsTakenBefore slots pairs n k b → IsTakenBefore slots pairs (n + 1) k b
     more_unless true k other (j, less, became) = (j, omega (arith, less), became)
     more_unless false k other apart = λ j l less b s is e. elim (last_or n j less) as (λ _. ⊥) [
       | inl h ↦ apart j l h b s is e
@@ -238,7 +238,7 @@ module _ (slots : Slots) (pairs : Pairs) (count : ℕ) (frozen : FreezesQuery sl
         no : false ≡ true → ⊥
         no p = cc
 
-        by : (o : Option T) → IsTaken slots pairs n k (is_some o) → free ≡ is_none o → IsTrue free ↔ IsRenamingFirst slots pairs (n + 1)
+        by : (o : Option T) → IsTakenBefore slots pairs n k (is_some o) → free ≡ is_none o → IsTrue free ↔ IsRenamingFirst slots pairs (n + 1)
         by None apart is = (λ p. more_apart k b apart, λ h. is)
         by (Some x) there is = (λ p. absurd (no (sym is ∙ p)), λ h. absurd (never_taken k b there h))
 
@@ -247,8 +247,8 @@ module _ (slots : Slots) (pairs : Pairs) (count : ℕ) (frozen : FreezesQuery sl
 
       pub one_more_taken : (q : ℕ) (old new : List (ℕ × T)) (free : Bool) → HasBecome slots pairs n (Same q) → AreTaken slots pairs n old → free ≡ is_none (value_at old q) → Takes old q new free → IsTrue free → AreTaken slots pairs (n + 1) new
       one_more_taken q old new true became t free (x, new_is) told k =
-          subst (λ l. IsTaken slots pairs (n + 1) k (is_some (value_at l k))) (sym new_is)
-          (elim (eqb_tells k q) as (λ _. IsTaken slots pairs (n + 1) k (is_some (value_at (old ++ (q, x) ∷ []) k))) [ inl e ↦ here e.1 | inr d ↦ else d.1 ])
+          subst (λ l. IsTakenBefore slots pairs (n + 1) k (is_some (value_at l k))) (sym new_is)
+          (elim (eqb_tells k q) as (λ _. IsTakenBefore slots pairs (n + 1) k (is_some (value_at (old ++ (q, x) ∷ []) k))) [ inl e ↦ here e.1 | inr d ↦ else d.1 ])
         where
           unbound : (o : Option T) → true ≡ is_none o → o ≡ None
           unbound None e = refl
@@ -256,17 +256,17 @@ module _ (slots : Slots) (pairs : Pairs) (count : ℕ) (frozen : FreezesQuery sl
             no : true ≡ false → ⊥
             no p = cc
 
-          here : k ≡ q → IsTaken slots pairs (n + 1) k (is_some (value_at (old ++ (q, x) ∷ []) k))
+          here : k ≡ q → IsTakenBefore slots pairs (n + 1) k (is_some (value_at (old ++ (q, x) ∷ []) k))
           here e =
-              subst (λ i. IsTaken slots pairs (n + 1) i (is_some (value_at (old ++ (q, x) ∷ []) i))) (sym e)
-              (subst (λ o. IsTaken slots pairs (n + 1) q (is_some o)) (sym (value_at-last old q x (unbound (value_at old q) free))) (n, omega arith, became))
+              subst (λ i. IsTakenBefore slots pairs (n + 1) i (is_some (value_at (old ++ (q, x) ∷ []) i))) (sym e)
+              (subst (λ o. IsTakenBefore slots pairs (n + 1) q (is_some o)) (sym (value_at-last old q x (unbound (value_at old q) free))) (n, omega arith, became))
 
           other : k ≢ q → (m : ℕ) → BindsEntry slots pairs n m → (s : Substitution Symbol Variable) → IsSolution slots pairs s → image same_variable s (entry m) ≡ terms.var (query k) → ⊥
           other d l b s is e = d (sym (same_query q k (sym (became.2 s is) ∙ ap (λ i. image same_variable s (entry i)) (one_entry n became.0 l became.1 b) ∙ e)))
 
-          else : k ≢ q → IsTaken slots pairs (n + 1) k (is_some (value_at (old ++ (q, x) ∷ []) k))
+          else : k ≢ q → IsTakenBefore slots pairs (n + 1) k (is_some (value_at (old ++ (q, x) ∷ []) k))
           else d =
-              subst (λ o. IsTaken slots pairs (n + 1) k (is_some o)) (sym (value_at-others old q k x d))
+              subst (λ o. IsTakenBefore slots pairs (n + 1) k (is_some o)) (sym (value_at-others old q k x d))
               (more_unless (is_some (value_at old k)) k (other d) (t k))
       one_more_taken q old new false became t free takes told k = absurd (no told) where
         no : false ≡ true → ⊥
@@ -278,7 +278,7 @@ module _ (slots : Slots) (pairs : Pairs) (count : ℕ) (frozen : FreezesQuery sl
 
   pub all_taken : {T : Type 0} (n : ℕ) (taken : List (ℕ × T)) → length pairs ≤ n → AreTaken slots pairs n taken → AreTaken slots pairs (length pairs) taken
   all_taken n taken long t k = by (is_some (value_at taken k)) (t k) where
-    by : (b : Bool) → IsTaken slots pairs n k b → IsTaken slots pairs (length pairs) k b
+    by : (b : Bool) → IsTakenBefore slots pairs n k b → IsTakenBefore slots pairs (length pairs) k b
     by true (j, less, (l, b, is)) = (j, got_within pairs j (b.slot, b.is_slot.0) b.is_slot.1, (l, b, is))
     by false apart = λ j l less b s is e. apart j l (omega (arith, less, long)) b s is e
 
@@ -296,7 +296,7 @@ takes_grows old k new true (x, e) = ((k, x) ∷ [], e)
 takes_grows old k new false e = ([], e ∙ sym (append-nil old))
 
 -- it stays so with more bindings
-pub still_taken : (slots : Slots) (old new : Pairs) → Grows old new → ((s : Substitution Symbol Variable) → IsSolution slots new s → IsSolution slots old s) → (k : ℕ) (b : Bool) → IsTaken slots old (length old) k b → IsTaken slots new (length old) k b
+pub still_taken : (slots : Slots) (old new : Pairs) → Grows old new → ((s : Substitution Symbol Variable) → IsSolution slots new s → IsSolution slots old s) → (k : ℕ) (b : Bool) → IsTakenBefore slots old (length old) k b → IsTakenBefore slots new (length old) k b
 still_taken slots old new grows solved k true (n, less, (l, bound, is)) = (n, less, (l, bound_still, λ s h. is s (solved s h))) where
   bound_still : BindsEntry slots new n l
   bound_still = record {

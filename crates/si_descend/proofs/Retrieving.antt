@@ -22,14 +22,14 @@ use Rattle.si_legal.specs.declared.Posting.{Posting}
 use Rattle.si_legal.specs.Bindings.{indicator}
 use Rattle.si_legal.specs.Trees.{Node, Tree, HasNode, Path, IsPath, PassesBy}
 use Rattle.si_legal.specs.Legal.{IsLegal, IsWithin, IsOpenBelow}
-use Rattle.si_legal.specs.Descents.{IsAnswer}
+use Rattle.si_legal.specs.Descents.{IsAnswerBelow}
 use Rattle.si_legal.proofs.PathLaws.{one_node}
 use Rattle.si_legal.proofs.SplitLaws.{binding_left}
 use Rattle.si_changes.proofs.Frames.{legal_nodes}
 use Rattle.si_changes.proofs.NewLeaves.{firsts_few, variables_few}
 use Rattle.si_changes.proofs.OpenLaws.{open_opened, opened_low}
 use Rattle.si_descend.specs.Answers.{Finds, Retrieves, IsStoredAnswer}
-use Rattle.si_descend.specs.Descending.{HasRoomFor, ShowsPath, IsQuery, ShowsAbove}
+use Rattle.si_descend.specs.Descending.{HasSlotsForDescent, ShowsPath, AreQueryCells, ShowsAbove}
 use Rattle.si_descend.proofs.Along.{is_step}
 use Rattle.si_descend.proofs.Entering.{one_row, term_in_range}
 use Rattle.si_descend.proofs.Openness.{of_kind}
@@ -68,7 +68,7 @@ within_slots tree slots (query n) e f h = absurd h
 within_slots tree slots (entry n) e f h = omega (arith, e, h)
 within_slots tree slots (ind n) e f h = omega (arith, f, h)
 
-pub has_room : (tree : Tree Term) (slots : Slots) (cells : List Cell) → IsLegal tree → slots.query ≡ length cells → slots.entry ≡ tree.vars → slots.inds ≡ tree.next → (is : IsQuery cells) → HasRoomFor slots tree cells
+pub has_room : (tree : Tree Term) (slots : Slots) (cells : List Cell) → IsLegal tree → slots.query ≡ length cells → slots.entry ≡ tree.vars → slots.inds ≡ tree.next → (is : AreQueryCells cells) → HasSlotsForDescent slots tree cells
 has_room tree slots cells legal d e f is q stands = record {
   query = query_slots slots cells q d stands (subst (IsNumberedBy query) (one_term cells is.0 q is.1.stands stands) is.1.numbered);
   zero = omega (arith, f, legal.zero_known);
@@ -164,7 +164,7 @@ passes_root tree legal from key (step ∷ above) e reached = by (λ up f. passes
   by go None f = inl ((legal.nodes step.0 step.1 reached.1).only_root f)
   by go (Some up) f = inr (go up f)
 
-pub stored_answers : (tree : Tree Term) → IsLegal tree → (relation : Relation) (q : Term) (p : Posting) → IsAnswer tree tree.root relation q p ↔ IsStoredAnswer tree relation q p
+pub stored_answers : (tree : Tree Term) → IsLegal tree → (relation : Relation) (q : Term) (p : Posting) → IsAnswerBelow tree tree.root relation q p ↔ IsStoredAnswer tree relation q p
 stored_answers tree legal relation q p = (
   λ h. (h.term, (h.key, (h.postings, h.leaf, h.among)), h.relates),
   λ h. record {

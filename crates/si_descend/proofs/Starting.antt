@@ -14,7 +14,7 @@ use Rattle.si_legal.specs.OpenNodes.{IsOpen}
 use Rattle.si_changes.proofs.Frames.{legal_nodes}
 use Rattle.si_changes.proofs.StoredLaws.{path_start}
 use Rattle.si_descend.specs.declared.search.Search.{Search}
-use Rattle.si_descend.specs.Descending.{HasRoom, Renames, ShowsAbove}
+use Rattle.si_descend.specs.Descending.{HasSlotsForTree, Renames, ShowsAbove}
 use Rattle.si_descend.specs.Renaming.{IsRenaming}
 use Rattle.si_descend.specs.Searching.{IsReady, KeepsApart, HasComeTo, IsClosedAt}
 use Rattle.si_descend.proofs.Entered.{variants_freeze}
@@ -46,7 +46,7 @@ module _ (search : Search) (ready : IsReady search) (key : ℕ) (node : Node Ter
         let shows = above node start.0 q has here.2 h in
         let solved = (shows s.map).1 (record { frozen = s.solves.frozen; zero = s.solves.zero; bindings = s.solves.bindings.1 }) in
         let fewer = renames_fewer Variants (path_term start.0) (path_term ((key, node) ∷ start.0)) s.map (λ m a. entry_kept node.bindings (path_term start.0) m a) (subst (λ k. Renames k (path_term ((key, node) ∷ start.0)) s.map) e s.renames) in
-        let renaming : IsRenaming search.slots pairs = open_renaming search.tree.now legal search.slots (variants_freeze search ready e) q (numbered q h) (subst (HasRoom search.slots search.tree.now) (one_term search.query.now ready.term q ready.query.stands h) ready.room) node.parent start.0 here.2 pairs count shows solving distinct s.map solved fewer in
+        let renaming : IsRenaming search.slots pairs = open_renaming search.tree.now legal search.slots (variants_freeze search ready e) q (numbered q h) (subst (HasSlotsForTree search.slots search.tree.now) (one_term search.query.now ready.term q ready.query.stands h) ready.room) node.parent start.0 here.2 pairs count shows solving distinct s.map solved fewer in
         none (subst (λ k. KeepsApart k search.slots pairs) (sym e) renaming)
     by Instances e q path h reached is = none (subst (λ k. KeepsApart k search.slots pairs) (sym e) tt)
     by Generalizations e q path h reached is = none (subst (λ k. KeepsApart k search.slots pairs) (sym e) tt)

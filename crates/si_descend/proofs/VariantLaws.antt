@@ -24,7 +24,7 @@ use Rattle.si_legal.specs.OpenNodes.{RenamesEntry}
 use Rattle.si_legal.proofs.SplitLaws.{binding_left}
 use Rattle.si_changes.proofs.Frames.{HasLegalNodes}
 use Rattle.si_changes.proofs.ComposeLaws.{same_substituted, applied_from, right_applied}
-use Rattle.si_descend.specs.Descending.{HasRoom, ShowsPath}
+use Rattle.si_descend.specs.Descending.{HasSlotsForTree, ShowsPath}
 use Rattle.si_descend.specs.Renaming.{FreezesQuery, bound_variables, IsRenaming}
 use Rattle.si_descend.proofs.Tabulated.{variable_tells, substituted_none}
 use Rattle.si_descend.proofs.Along.{is_step, solves_path_term}
@@ -129,7 +129,7 @@ wrapped t = terms.app (record { number = 0; arity = 1 }) (terms.more t terms.non
 wrapped_differs : (t : Term) → wrapped t ≡ t → ⊥
 wrapped_differs t e = let sizes = ap terms.size e in omega (arith, sizes)
 
-module _ (tree : Tree Term) (legal : HasLegalNodes tree) (slots : Slots) (frozen : FreezesQuery slots) (q : Term) (numbered : IsNumberedBy query q) (room : HasRoom slots tree q) where
+module _ (tree : Tree Term) (legal : HasLegalNodes tree) (slots : Slots) (frozen : FreezesQuery slots) (q : Term) (numbered : IsNumberedBy query q) (room : HasSlotsForTree slots tree q) where
   -- ---- the variables on a path have slots
   pub on_path : (from : Option ℕ) (p : Path) → IsPath tree from p → (x : Variable) → IsAmong (terms.variables (path_term p)) x → IsInRange slots x
   on_path from [] reached x (inl e) = subst (IsInRange slots) e room.zero

@@ -8,7 +8,7 @@ use Rattle.si_flat.specs.declared.Cell.{Cell}
 use Rattle.si_flat.specs.Cells.{same_variable, Term, StandsFor}
 use Rattle.si_legal.specs.declared.Posting.{Posting}
 use Rattle.si_legal.specs.Trees.{Tree}
-use Rattle.si_legal.specs.Descents.{IsAnswer}
+use Rattle.si_legal.specs.Descents.{IsAnswerBelow}
 use Rattle.si_legal.specs.OpenNodes.{CountsOpen}
 use Rattle.si_legal.specs.Engines.{AppendsAnswers}
 use Rattle.si_legal.specs.StoredSets.{IsUnder}
@@ -19,7 +19,7 @@ pub record Finds (tree : Tree Term) (top : ℕ) (relation : Relation) (query : L
     (old new : List Posting) (n : ℕ) : Type 0 where
   pub counts : (q : Term) → StandsFor query q → CountsOpen tree top relation q n
   pub appends : (q : Term) → StandsFor query q
-      → AppendsAnswers (IsAnswer tree top relation q) old new
+      → AppendsAnswers (IsAnswerBelow tree top relation q) old new
 
 -- What a descent promises. The list has what was found after what it had, at an error only what it
 -- had, and the trail is as before.

@@ -16,7 +16,7 @@ use Rattle.si_descend.specs.declared.attempts.Attempts.{Attempts}
 use Rattle.si_descend.specs.declared.attempts.Attempts.TheVariants.{InOrder, ByHeads}
 use Rattle.si_descend.specs.declared.heads.Wanted.{Wanted}
 use Rattle.si_descend.specs.declared.search.Search.{Search}
-use Rattle.si_descend.specs.Heads.{first_of, CannotMeet, RulesOut, SplitsBy}
+use Rattle.si_descend.specs.Heads.{first_cell_of, CannotMeet, RulesOut, SplitsBy}
 
 -- ---- heads at places
 -- first that of a term which begins with this cell, if it has one, and then each variable of an
@@ -43,7 +43,7 @@ pub record AreHeadsFor (relation : Relation) (slots : Slots) (vars : ℕ) (first
       → head_at first i ≡ Some h → head_at first j ≡ Some h → i ≡ j
   pub all : (t : Term) → HasHeadBelow vars t
       → ((place : ℕ) × (place < end) × IsPlaceOf first t place)
-      ⊎ CannotMeet relation slots first (first_of (cells_of t))
+      ⊎ CannotMeet relation slots first (first_cell_of (cells_of t))
 
 -- ---- children at places
 -- the child is tried at this place

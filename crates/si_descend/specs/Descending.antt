@@ -29,7 +29,7 @@ Freezes Generalizations slots = (slots.freeze_query ≡ true) × (slots.freeze_e
 Freezes Variants slots = (slots.freeze_query ≡ true) × (slots.freeze_entry ≡ false)
 
 -- there is a slot for each variable of the query, and for each on the tree's paths
-pub record HasRoom (slots : Slots) (tree : Tree Term) (q : Term) : Type 0 where
+pub record HasSlotsForTree (slots : Slots) (tree : Tree Term) (q : Term) : Type 0 where
   pub query : AllByRecursion (IsInRange slots) (terms.variables q)
   pub zero : IsInRange slots (ind 0)
   pub nodes : (key : ℕ) (node : Node Term) → HasNode tree key node
@@ -59,12 +59,12 @@ pub record IsQueryTerm (cells : List Cell) (q : Term) : Type 0 where
   pub stands : StandsFor cells q
   pub numbered : IsNumberedBy query q
 
-abbrev pub IsQuery : List Cell → Type 0
-IsQuery cells = (q : Term) × IsQueryTerm cells q
+abbrev pub AreQueryCells : List Cell → Type 0
+AreQueryCells cells = (q : Term) × IsQueryTerm cells q
 
 -- ---- where a descent begins
-abbrev pub HasRoomFor : Slots → Tree Term → List Cell → Type 0
-HasRoomFor slots tree cells = (q : Term) → StandsFor cells q → HasRoom slots tree q
+abbrev pub HasSlotsForDescent : Slots → Tree Term → List Cell → Type 0
+HasSlotsForDescent slots tree cells = (q : Term) → StandsFor cells q → HasSlotsForTree slots tree q
 
 -- the bindings of the nodes above this one are solved, for the query in these cells
 abbrev pub ShowsAbove : Slots → Pairs → Tree Term → ℕ → List Cell → Type 0
@@ -79,8 +79,8 @@ ShowsAbove slots pairs tree key cells =
 pub record MayDescend (tree : Tree Term) (key : ℕ) (relation : Relation) (cells : List Cell)
     (slots : Slots) (trail : Trail (Bor (List Cell))) : Type 0 where
   pub node : IsNode tree key
-  pub query : IsQuery cells
+  pub query : AreQueryCells cells
   pub freezes : Freezes relation slots
-  pub room : HasRoomFor slots tree cells
+  pub room : HasSlotsForDescent slots tree cells
   pub solving : AllowsSolving slots trail.pairs trail.slots
   pub above : ShowsAbove slots trail.pairs tree key cells

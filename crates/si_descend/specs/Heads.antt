@@ -17,8 +17,8 @@ use Rattle.si_descend.specs.declared.search.Search.{Search}
 use Rattle.si_fit.specs.Meeting.{LeavesFrozen}
 use Rattle.si_descend.specs.Descending.{Renames}
 
-abbrev pub first_of : List Cell → Cell
-first_of cells = get_or cells 0 (cell.App 0 0 0)
+abbrev pub first_cell_of : List Cell → Cell
+first_cell_of cells = get_or cells 0 (cell.App 0 0 0)
 
 -- no variable of an entry can become a term that begins with a symbol
 abbrev pub KeepsVariables : Relation → Slots → Type 0
@@ -31,13 +31,13 @@ abbrev pub CannotMeet : Relation → Slots → Cell → Cell → Type 0
 CannotMeet relation slots one other =
     (s : Substitution Symbol Variable) (t u : Term)
     → LeavesFrozen slots (image same_variable s) → Renames relation u s
-    → first_of (cells_of t) ≡ one → first_of (cells_of u) ≡ other
+    → first_cell_of (cells_of t) ≡ one → first_cell_of (cells_of u) ≡ other
     → apply same_variable s t ≡ apply same_variable s u → ⊥
 
 -- nor terms of which the second has this head
 abbrev pub CannotHave : Relation → Slots → Cell → Head → Type 0
 CannotHave relation slots first head =
-    (t : Term) → HasHead t head → CannotMeet relation slots first (first_of (cells_of t))
+    (t : Term) → HasHead t head → CannotMeet relation slots first (first_cell_of (cells_of t))
 
 -- the node splits by what is wanted
 abbrev pub SplitsBy : Search → ℕ → Option Wanted → Type 0
@@ -48,7 +48,7 @@ SplitsBy search key (Some w) = AtNode search.tree.now key (λ n. split_of n.cont
 abbrev pub IsSplitOf : Search → ℕ → Pairs → ℕ → Cell → Type 0
 IsSplitOf search key pairs split first =
     AtNode search.tree.now key (λ n. split_of n.content ≡ Some split)
-    × ((t : Term) × (first_of (cells_of t) ≡ first)
+    × ((t : Term) × (first_cell_of (cells_of t) ≡ first)
     × ((s : Substitution Symbol Variable) → IsSolution search.slots pairs s
     → image same_variable s (ind split) ≡ apply same_variable s t))
 
@@ -66,4 +66,4 @@ abbrev pub RulesOut : Search → Option Wanted → ℕ → Type 0
 RulesOut search None child = ⊥
 RulesOut search (Some w) child =
     (t : Term) × ChildBinds search.tree.now child w.split t
-    × CannotMeet search.relation search.slots w.first (first_of (cells_of t))
+    × CannotMeet search.relation search.slots w.first (first_cell_of (cells_of t))

@@ -14,7 +14,7 @@ use Rattle.si_unify.specs.Solving.{Pairs}
 use Rattle.si_legal.specs.declared.Posting.{Posting}
 use Rattle.si_legal.specs.Bindings.{Binding}
 use Rattle.si_legal.specs.Trees.{Node, Tree, HasNode}
-use Rattle.si_legal.specs.Descents.{IsAnswer}
+use Rattle.si_legal.specs.Descents.{IsAnswerBelow}
 
 -- ---- right sides
 -- none of these has more than n cells
@@ -57,4 +57,4 @@ HasRoomForAll these out =
 abbrev pub HasRoomForAnswers : {A : Type 0} → Tree Term → ℕ → Relation → List Cell
     → Vec Posting A → Type 0
 HasRoomForAnswers tree top relation query out =
-    (q : Term) → StandsFor query q → HasRoomForAll (IsAnswer tree top relation q) out
+    (q : Term) → StandsFor query q → HasRoomForAll (IsAnswerBelow tree top relation q) out

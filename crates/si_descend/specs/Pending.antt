@@ -17,8 +17,8 @@ use Rattle.si_descend.specs.Searching.{AreOpenBelow, IsAboveNode, IsClosedAt, Is
 
 -- ---- one of them
 -- the trail as it was when it had so many bindings
-abbrev pub cut : {T : Type 0} → ℕ → Trail T → Trail T
-cut n trail = record { slots = trail.slots; pairs = take n trail.pairs }
+abbrev pub cut_back : {T : Type 0} → ℕ → Trail T → Trail T
+cut_back n trail = record { slots = trail.slots; pairs = take n trail.pairs }
 
 -- The bindings of the nodes above it are solved. Or all nodes below it and at it are known to be
 -- open.
@@ -31,7 +31,7 @@ pub record IsDue (search : Search) (trail : Trail (Bor (List Cell))) (taken : Tr
     (p : Pending) : Type 0 where
   pub mark : p.mark ≤ length trail.pairs
   pub taken_mark : p.taken_mark ≤ length taken.pairs
-  pub may : MayVisit search p.node (cut p.mark trail) (cut p.taken_mark taken) p.whole
+  pub may : MayVisit search p.node (cut_back p.mark trail) (cut_back p.taken_mark taken) p.whole
 
 -- one that is to be visited below those nodes whose bindings the trails hold
 abbrev pub pending_at : ℕ → Trail (Bor (List Cell)) → Trail ⊤ → Pending
@@ -63,7 +63,7 @@ with_marks m tops = map (λ key.
 
 -- those are put after the nodes that were pending, with marks that are no less than those of the
 -- node
-pub record Leaves (search : Search) (next : Pending) (trail : Trail (Bor (List Cell)))
+pub record LeavesDue (search : Search) (next : Pending) (trail : Trail (Bor (List Cell)))
     (taken : Trail ⊤) (old new : List Pending) : Type 0 where
   pub tops : List ℕ
   pub marks : Marks
@@ -78,7 +78,7 @@ pub record Leaves (search : Search) (next : Pending) (trail : Trail (Bor (List C
 abbrev pub HasStepped : Search → Pending → Trail (Bor (List Cell)) → Trail ⊤ → List Pending
     → List Pending → Bool → Type 0
 HasStepped search next trail taken old new true =
-    IsOpenAt search next.node × Leaves search next trail taken old new
+    IsOpenAt search next.node × LeavesDue search next trail taken old new
 HasStepped search next trail taken old new false = IsClosedAt search next.node × (new ≡ old)
 
 -- ---- nodes that wait

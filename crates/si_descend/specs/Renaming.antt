@@ -61,9 +61,9 @@ taken_in None = record { slots = 0; pairs = [] }
 taken_in (Some trail) = trail
 
 -- one of the first so many became this variable, or none did
-abbrev pub IsTaken : Slots → Pairs → ℕ → ℕ → Bool → Type 0
-IsTaken slots pairs end k true = (n : ℕ) × (n < end) × HasBecome slots pairs n (Same k)
-IsTaken slots pairs end k false =
+abbrev pub IsTakenBefore : Slots → Pairs → ℕ → ℕ → Bool → Type 0
+IsTakenBefore slots pairs end k true = (n : ℕ) × (n < end) × HasBecome slots pairs n (Same k)
+IsTakenBefore slots pairs end k false =
     (n m : ℕ) → n < end → BindsEntry slots pairs n m
     → (s : Substitution Symbol Variable) → IsSolution slots pairs s
     → image same_variable s (entry m) ≡ terms.var (query k) → ⊥
@@ -72,7 +72,7 @@ module _ {T : Type 0} where
   -- the bound slots are those of the query's variables that one of the first so many became
   abbrev pub AreTaken : Slots → Pairs → ℕ → List (ℕ × T) → Type 0
   AreTaken slots pairs end taken =
-      (k : ℕ) → IsTaken slots pairs end k (is_some (value_at taken k))
+      (k : ℕ) → IsTakenBefore slots pairs end k (is_some (value_at taken k))
 
   -- `true`: this slot is bound too. `false`: nothing changes.
   abbrev pub Takes : List (ℕ × T) → ℕ → List (ℕ × T) → Bool → Type 0

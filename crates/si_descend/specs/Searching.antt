@@ -14,7 +14,7 @@ use Rattle.si_legal.specs.Trees.{Node, Tree, Path, IsPath, PassesBy, path_term}
 use Rattle.si_legal.specs.Legal.{IsLegal}
 use Rattle.si_legal.specs.OpenNodes.{IsOpen}
 use Rattle.si_descend.specs.declared.search.Search.{Search}
-use Rattle.si_descend.specs.Descending.{Freezes, HasRoom, ShowsPath, IsQueryTerm}
+use Rattle.si_descend.specs.Descending.{Freezes, HasSlotsForTree, ShowsPath, IsQueryTerm}
 use Rattle.si_descend.specs.Answers.{Finds}
 use Rattle.si_fit.specs.Fitting.{HasSolution}
 use Rattle.si_tree.specs.Reading.{IsNode, AtNode}
@@ -27,7 +27,7 @@ pub record IsReady (search : Search) : Type 0 where
   pub term : Term
   pub query : IsQueryTerm search.query.now term
   pub freezes : Freezes search.relation search.slots
-  pub room : HasRoom search.slots search.tree.now term
+  pub room : HasSlotsForTree search.slots search.tree.now term
 
 -- ---- at a node
 abbrev pub KeepsApart : Relation → Slots → Pairs → Type 0

@@ -8,7 +8,7 @@ ghost use Rattle.si_descend.specs.Answers.{HasDescended, Retrieves};
 ghost use Rattle.si_descend.specs.Counting.{CountsAnswers, HasCounted};
 ghost use Rattle.si_unify.specs.Rooms.{IsNoLessRoom};
 ghost use Rattle.si_descend.specs.Lending.{HasRoomForAnswers, IsEnoughForTree, IsTableFor};
-ghost use Rattle.si_descend.specs.Descending.{Freezes, IsQuery, MayDescend, ShowsAbove};
+ghost use Rattle.si_descend.specs.Descending.{Freezes, AreQueryCells, MayDescend, ShowsAbove};
 ghost use Rattle.si_unify.specs.Solving.{AllowsSolving};
 ghost use Rattle.si_legal.specs.Counts.{node_count};
 ghost use Rattle.si_descend.specs.Pending.{LacksRoom};
@@ -155,7 +155,7 @@ pub fn retrieve(
     query: &Flat,
     out: &mut Vec<Posting>,
 ) -> Result<u64, AllocError>
-    requires { IsQuery query.now }
+    requires { AreQueryCells query.now }
     ensures retrieves { IfOk result (Retrieves tree.now relation query.now
         out.old.items out.new.items) }
     ensures err { OnErr result (out.new.items ≡ out.old.items) }
@@ -189,7 +189,7 @@ pub fn count(
     relation: Relation,
     query: &Flat,
 ) -> Result<Counted, AllocError>
-    requires { IsQuery query.now }
+    requires { AreQueryCells query.now }
     ensures { IfOk result (CountsAnswers tree.now relation query.now) }
 {
     let root = tree.root();

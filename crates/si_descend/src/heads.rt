@@ -3,7 +3,7 @@ ghost use Rattle.std.specs.Prelude.{◌≡◌, ◌↔◌, Some, IsTrue, length};
 ghost use Rattle.si_flat.specs.Cells.{IsWhole};
 ghost use Rattle.si_tree.specs.Reading.{IsNode};
 ghost use Rattle.si_unify.specs.Solving.{AllowsSolving};
-ghost use Rattle.si_descend.specs.Heads.{first_of, CannotHave, IsUnwanted, IsWanted, KeepsVariables};
+ghost use Rattle.si_descend.specs.Heads.{first_cell_of, CannotHave, IsUnwanted, IsWanted, KeepsVariables};
 
 use crate::search::Search;
 use si_defs::Relation;
@@ -48,7 +48,7 @@ pub(crate) fn asked_of<'a>(
 // The first cell of a term.
 fn first(cells: &[Cell]) -> Cell
     requires { IsWhole cells.now }
-    ensures { result ≡ first_of cells.now }
+    ensures { result ≡ first_cell_of cells.now }
 {
     cells[0]
 }

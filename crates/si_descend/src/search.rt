@@ -1,7 +1,7 @@
 // The search of a tree from a node downwards.
 ghost use Rattle.std.specs.Prelude.{◌≡◌, ◌≤◌, [], IfOk, IsTrue, OnErr, OnOk, vec_capacity, ℕ};
 ghost use Rattle.si_defs.specs.Substitutions.{Grows};
-ghost use Rattle.si_descend.specs.Descending.{Freezes, HasRoomFor, IsQuery};
+ghost use Rattle.si_descend.specs.Descending.{Freezes, HasSlotsForDescent, AreQueryCells};
 ghost use Rattle.si_unify.specs.Solving.{AllowsSolving};
 ghost use Rattle.si_descend.specs.Lending.{IsEnoughForTree};
 ghost use Rattle.si_unify.specs.Rooms.{AreNoLongerThan, IsNoLessRoom};
@@ -37,9 +37,9 @@ impl<'a> Search<'a> {
         query: &'a Flat,
         slots: Slots,
     ) -> Search<'a>
-        requires query { IsQuery query.now }
+        requires query { AreQueryCells query.now }
         requires freezes { Freezes relation slots }
-        requires room { HasRoomFor slots tree.now query.now }
+        requires room { HasSlotsForDescent slots tree.now query.now }
         ensures ready { IsReady result }
         ensures tree { result.tree ≡ tree.entry }
         ensures relation { result.relation ≡ relation }

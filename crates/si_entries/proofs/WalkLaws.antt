@@ -16,7 +16,7 @@ use Rattle.si_term.specs.declared.clause.Literal as program_literal
 use Rattle.si_term.specs.declared.clause.Entry as program_entry
 use Rattle.si_entries.specs.declared.walk.Row.{Row}
 use Rattle.si_entries.specs.declared.walk.Entries.{Entries}
-use Rattle.si_entries.specs.Walks.{terms_left, numbers, at, row_left, rows_left, left_of, last_place, weight_of, IsSmallRow, Gives, GivesAfter}
+use Rattle.si_entries.specs.Walks.{terms_left, numbers, at, row_left, rows_left, left_of, last_place, weight_of, IsSmallRow, GivesEntry, GivesAfter}
 
 -- ---- subterms by their paths
 pub at_append : (n : ℕ) (p : List ℕ) (xs ys : List (List ℕ × Term)) → at n p (xs ++ ys) ≡ at n p xs ++ at n p ys
@@ -139,7 +139,7 @@ pub record HasPassed (n : ℕ) (all now : List Placed) : Type 0 where
 pub passed_none : (all : List Placed) → HasPassed 0 all all
 passed_none all = record { passed = []; long = refl; whole = refl }
 
-pub passed_more : (n : ℕ) (old mid new : Entries) (e : program_entry.Entry) → HasPassed n (left_of old) (left_of mid) → Gives mid new (Some e) → HasPassed (n + 1) (left_of old) (left_of new)
+pub passed_more : (n : ℕ) (old mid new : Entries) (e : program_entry.Entry) → HasPassed n (left_of old) (left_of mid) → GivesEntry mid new (Some e) → HasPassed (n + 1) (left_of old) (left_of new)
 passed_more n old mid new e h given =
     let one : Placed = record { entry = entry_of e; place = last_place new } in
     record {
@@ -148,10 +148,10 @@ passed_more n old mid new e h given =
       whole = h.whole ∙ ap (λ l. h.passed ++ l) given ∙ sym (append_assoc h.passed (one ∷ []) (left_of new));
     }
 
-pub passed_all : (n m : ℕ) (old mid new : Entries) → n ≤ m → HasPassed n (left_of old) (left_of mid) → Gives mid new None
+pub passed_all : (n m : ℕ) (old mid new : Entries) → n ≤ m → HasPassed n (left_of old) (left_of mid) → GivesEntry mid new None
     → (length (left_of old) ≤ m) × (left_of new ≡ [])
 passed_all n m old mid new few h none = (omega (arith, few, h.long, ap length h.whole, length-append h.passed (left_of mid), ap length none.0), none.1)
 
-pub given_after : (n : ℕ) (old mid new : Entries) (o : Option program_entry.Entry) → HasPassed n (left_of old) (left_of mid) → Gives mid new o → GivesAfter n old new o
+pub given_after : (n : ℕ) (old mid new : Entries) (o : Option program_entry.Entry) → HasPassed n (left_of old) (left_of mid) → GivesEntry mid new o → GivesAfter n old new o
 given_after n old mid new None h none = passed_all n n old mid new (omega arith) h none
 given_after n old mid new (Some e) h given = (h.passed, h.long, h.whole ∙ ap (λ l. h.passed ++ l) given)

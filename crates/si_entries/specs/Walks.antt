@@ -39,11 +39,11 @@ abbrev pub rows_of : Entries → List Row
 rows_of e = e.around.items ++ e.row ∷ []
 
 -- the entries that are left in the literal, and those that are left of the clause
-abbrev pub inside : Entries → List Placed
-inside e = rows_left e.literal [] (rows_of e)
+abbrev pub rows_inside : Entries → List Placed
+rows_inside e = rows_left e.literal [] (rows_of e)
 
 abbrev pub left_of : Entries → List Placed
-left_of e = inside e ++ entries_from (1 + e.literal) (map literal_of e.literals.now)
+left_of e = rows_inside e ++ entries_from (1 + e.literal) (map literal_of e.literals.now)
 
 -- where the entry stands that was given last
 abbrev pub last_place : Entries → Place
@@ -73,27 +73,29 @@ pub record HasSameLiterals (old new : Entries) : Type 0 where
   pub literal : new.literal ≡ old.literal
 
 -- this argument is passed, and all in it is left out
-pub record Passes (t : Term) (old new : Entries) : Type 0 where
-  pub left : inside old ≡ at new.literal (numbers (rows_of new)) (occurrences t) ++ inside new
+pub record PassesTerm (t : Term) (old new : Entries) : Type 0 where
+  pub left : rows_inside old
+      ≡ at new.literal (numbers (rows_of new)) (occurrences t) ++ rows_inside new
   pub lighter : weight new < weight old
   pub few : size t ≤ MOST_OCCURRENCES
 
 -- the walk is in these arguments of the term that it passed last
-pub record Descends (terms : List program.Term) (old new : Entries) : Type 0 where
+pub record EntersTerm (terms : List program.Term) (old new : Entries) : Type 0 where
   pub same : HasSameLiterals old new
   pub path : numbers new.around.items ≡ numbers (rows_of old)
-  pub left : inside new
+  pub left : rows_inside new
       ≡ at new.literal (numbers new.around.items) (occurrences_from 1 (row (map term_of terms)))
-      ++ inside old
+      ++ rows_inside old
 
 abbrev pub GivesTerm : Entries → Entries → Option (Bor program.Term) → Type 0
-GivesTerm old new None = (inside old ≡ []) × (inside new ≡ [])
+GivesTerm old new None = (rows_inside old ≡ []) × (rows_inside new ≡ [])
 GivesTerm old new (Some t) =
-    inside old ≡ record { entry = term_entry (term_of t.now); place = last_place new } ∷ inside new
+    rows_inside old
+    ≡ record { entry = term_entry (term_of t.now); place = last_place new } ∷ rows_inside new
 
-abbrev pub Gives : Entries → Entries → Option program_entry.Entry → Type 0
-Gives old new None = (left_of old ≡ []) × (left_of new ≡ [])
-Gives old new (Some e) =
+abbrev pub GivesEntry : Entries → Entries → Option program_entry.Entry → Type 0
+GivesEntry old new None = (left_of old ≡ []) × (left_of new ≡ [])
+GivesEntry old new (Some e) =
     left_of old ≡ record { entry = entry_of e; place = last_place new } ∷ left_of new
 
 -- the same after so many others

@@ -6,7 +6,7 @@ ghost use Rattle.si_defs.specs.Entries.{entries};
 ghost use Rattle.si_defs.specs.declared.TheConstants.{MOST_OCCURRENCES};
 ghost use Rattle.si_term.specs.Terms.{term_of};
 ghost use Rattle.si_term.specs.Meaning.{clause_of, literal_of, place_of};
-ghost use Rattle.si_entries.specs.Walks.{IsSmall, HasSameLiterals, Passes, Descends, Gives, GivesAfter, GivesTerm, inside, left_of, last_place, weight};
+ghost use Rattle.si_entries.specs.Walks.{IsSmall, HasSameLiterals, PassesTerm, EntersTerm, GivesEntry, GivesAfter, GivesTerm, rows_inside, left_of, last_place, weight};
 
 use si_term::{Clause, Entry, Literal, Path, Place, Term};
 use std::alloc::{AllocError, Global};
@@ -55,7 +55,7 @@ impl<'a> Entries<'a> {
     pub fn next(&mut self) -> Result<Option<Entry<'a>>, AllocError>
         requires { IsSmall self.old }
         ensures small { OnOk result (IsSmall self.new) }
-        ensures next { IfOk result (Gives self.old self.new) }
+        ensures next { IfOk result (GivesEntry self.old self.new) }
     {
         match self.next_term()? {
             Some(term) => Ok(Some(Entry::Sub(term))),
@@ -115,8 +115,8 @@ impl<'a> Entries<'a> {
         requires { IsSmall self.old }
         ensures small { IsSmall self.new }
         ensures same { HasSameLiterals self.old self.new }
-        ensures some { IfSome result (λ term. Passes (term_of term.now) self.old self.new) }
-        ensures none { IfNone result (inside self.old ≡ [] × inside self.new ≡ []) }
+        ensures some { IfSome result (λ term. PassesTerm (term_of term.now) self.old self.new) }
+        ensures none { IfNone result (rows_inside self.old ≡ [] × rows_inside self.new ≡ []) }
     {
         self.climb();
         let (term, left) = self.row.left.split_first()?;
@@ -130,7 +130,7 @@ impl<'a> Entries<'a> {
         requires { IsSmall self.old }
         ensures small { IsSmall self.new }
         ensures same { HasSameLiterals self.old self.new }
-        ensures inside { inside self.new ≡ inside self.old }
+        ensures inside { rows_inside self.new ≡ rows_inside self.old }
         ensures lighter { weight self.new ≤ weight self.old }
         ensures top { self.new.row.left.now ≡ [] → self.new.around.items ≡ [] }
     {
@@ -147,7 +147,7 @@ impl<'a> Entries<'a> {
         requires small { IsSmall self.old }
         requires few { sizes (row (map term_of arguments.now)) ≤ MOST_OCCURRENCES }
         ensures small { OnOk result (IsSmall self.new) }
-        ensures descends { OnOk result (Descends arguments.now self.old self.new) }
+        ensures descends { OnOk result (EntersTerm arguments.now self.old self.new) }
     {
         let row = Row {
             left: arguments,
@@ -161,9 +161,9 @@ impl<'a> Entries<'a> {
     /// The next literal; `None` at the end.
     fn next_literal(&mut self) -> Option<Entry<'a>>
         requires small { IsSmall self.old }
-        requires done { inside self.old ≡ [] }
+        requires done { rows_inside self.old ≡ [] }
         ensures small { IsSmall self.new }
-        ensures next { Gives self.old self.new result }
+        ensures next { GivesEntry self.old self.new result }
     {
         let (literal, others) = self.literals.split_first()?;
         self.literals = others;

@@ -11,7 +11,7 @@ use Rattle.si_flat.specs.Cells.{Term, IsWhole}
 use Rattle.si_trail.specs.Trails.{value_at, HasDistinctSlots}
 use Rattle.si_unify.specs.declared.slots.Slots.{Slots}
 use Rattle.si_unify.specs.Solving.{Pairs, slot_of, variable_of, CellIsInRange, AreInRange, RanksBelow, IsAcyclic, IsBinding, AllowsSolving}
-use Rattle.si_unify.specs.Spots.{cell_slot, IsBelow, IsUnbound}
+use Rattle.si_unify.specs.Spots.{cell_slot, ChainComesDown, IsUnbound}
 use Rattle.si_unify.proofs.Places.{whole_at, first_cell, cell-at, inside, in_range-at, in_range-variable}
 use Rattle.si_unify.proofs.Reading.{one_term}
 use Rattle.si_unify.proofs.Binding.{IsNot, CanBind, solved_front, bound_legal, bound_solved, bound_equal}
@@ -36,13 +36,13 @@ ends_unbound slots pairs slot (terms.var x) bindings range h = subst (IsUnbound 
   ]
 
 -- ---- ranks by cells
-pub below_of : (slots : Slots) (rank : ℕ → ℕ) (k : ℕ) (c : Cell) → RanksBelow slots rank k c → IsBelow rank k (cell_slot slots c)
+pub below_of : (slots : Slots) (rank : ℕ → ℕ) (k : ℕ) (c : Cell) → RanksBelow slots rank k c → ChainComesDown rank k (cell_slot slots c)
 below_of slots rank k (cell.App s a n) h = tt
 below_of slots rank k (cell.Query n) h = h
 below_of slots rank k (cell.Entry n) h = h
 below_of slots rank k (cell.Ind n) h = h
 
-pub of_below : (slots : Slots) (rank : ℕ → ℕ) (k : ℕ) (c : Cell) → IsBelow rank k (cell_slot slots c) → RanksBelow slots rank k c
+pub of_below : (slots : Slots) (rank : ℕ → ℕ) (k : ℕ) (c : Cell) → ChainComesDown rank k (cell_slot slots c) → RanksBelow slots rank k c
 of_below slots rank k (cell.App s a n) h = tt
 of_below slots rank k (cell.Query n) h = h
 of_below slots rank k (cell.Entry n) h = h
@@ -82,7 +82,7 @@ module _ (slots : Slots) (pairs : Pairs) (slot count : ℕ) (v : Bor (List Cell)
   rank k = old k + lifted (leads k)
 
   -- the value of a slot that is bound leads no further than the slot
-  old_below : (k : ℕ) (w : Bor (List Cell)) (o : Option ℕ) → value_at pairs k ≡ Some w → ((n : ℕ) → slot_leads (leads_to slots pairs slot n) o ≡ true → leads_to slots pairs slot (suc n) k ≡ true) → IsBelow old k o → IsBelow rank k o
+  old_below : (k : ℕ) (w : Bor (List Cell)) (o : Option ℕ) → value_at pairs k ≡ Some w → ((n : ℕ) → slot_leads (leads_to slots pairs slot n) o ≡ true → leads_to slots pairs slot (suc n) k ≡ true) → ChainComesDown old k o → ChainComesDown rank k o
   old_below k w None bound on h = tt
   old_below k w (Some m) bound on h = go (leads m) refl where
     go : (b : Bool) → leads m ≡ b → rank m < rank k
@@ -112,7 +112,7 @@ module _ (slots : Slots) (pairs : Pairs) (slot count : ℕ) (v : Bor (List Cell)
   self_leads zero = eq-eqb slot slot refl
   self_leads (suc n) = ap (λ b. b || value_leads (leads_to slots pairs slot n) slots (value_at pairs slot)) (eq-eqb slot slot refl)
 
-  new_below : (o : Option ℕ) → ((n : ℕ) → slot_leads (leads_to slots pairs slot n) o ≡ false) → slot_rank old o ≤ top_rank slots old v.now → IsBelow rank slot o
+  new_below : (o : Option ℕ) → ((n : ℕ) → slot_leads (leads_to slots pairs slot n) o ≡ false) → slot_rank old o ≤ top_rank slots old v.now → ChainComesDown rank slot o
   new_below None none low = tt
   new_below (Some m) none low =
       let here : rank m ≡ old m + 0 = ap (λ b. old m + lifted b) (none (old m)) in

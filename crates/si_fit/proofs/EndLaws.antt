@@ -9,7 +9,7 @@ use Rattle.si_trail.specs.Trails.{value_at}
 use Rattle.si_unify.specs.declared.slots.Slots.{Slots}
 use Rattle.si_unify.specs.Rooms.{AreNoLongerThan}
 use Rattle.si_unify.specs.Solving.{Pairs, variable_of, slot_of, CellIsInRange, AreInRange, Equalizes, IsSolvedBy, IsBinding, AllowsSolving}
-use Rattle.si_unify.specs.Spots.{cell_slot, IsBelow, ComesDown, IsChained, IsUnbound}
+use Rattle.si_unify.specs.Spots.{cell_slot, ChainComesDown, ComesDown, IsChained, IsUnbound}
 use Rattle.si_unify.proofs.Places.{value_holds, whole_at, first_cell, cell-at, inside, in_range-at, in_range-variable, variable_of-slot_of, slot_variable}
 use Rattle.si_unify.proofs.Reading.{one_term}
 use Rattle.si_unify.proofs.Answering.{legal_at_first}
@@ -38,7 +38,7 @@ next_below : (slots : Slots) (rank : ℕ → ℕ) (slot next : ℕ) (cells : Lis
 next_below slots rank slot next [] down e = absurd (by e) where
   by : None ≡ Some next → ⊥
   by p = cc
-next_below slots rank slot next (c ∷ cells) down e = subst (IsBelow rank slot) e down
+next_below slots rank slot next (c ∷ cells) down e = subst (ChainComesDown rank slot) e down
 
 module _ (slots : Slots) (pairs : Pairs) (start : List Cell) where
   pub record IsDown (reached : List Cell) (steps : ℕ) : Type 0 where

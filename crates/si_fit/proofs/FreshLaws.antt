@@ -12,7 +12,7 @@ use Rattle.si_flat.specs.Cells.{Symbol, Variable, query, entry, ind, same_variab
 use Rattle.si_trail.specs.Trails.{value_at, HasDistinctSlots}
 use Rattle.si_unify.specs.declared.slots.Slots.{Slots}
 use Rattle.si_unify.specs.Solving.{Pairs, slot_of, variable_of, is_frozen, IsInRange, CellIsInRange, AreInRange, Equalizes, IsBinding, RanksBelow, IsAcyclic, IsSolution, AllowsSolving}
-use Rattle.si_unify.specs.Spots.{cell_slot, IsBelow}
+use Rattle.si_unify.specs.Spots.{cell_slot, ChainComesDown}
 use Rattle.si_unify.proofs.Binding.{solved_front}
 use Rattle.si_unify.proofs.Places.{variable_of-slot_of}
 use Rattle.si_unify.proofs.Solutions.{lt_tells, solved_of_triangular}
@@ -237,11 +237,11 @@ module _ (slots : Slots) (pairs : Pairs) (n count : ℕ) (v : Bor (List Cell)) (
     of_variable : ind k ≡ ind n → cell.Ind k ≡ cell.Ind n
     of_variable f = ap variable_cell f
 
-  still_below : (k : ℕ) (o : Option ℕ) → (k ≡ slot → ⊥) → ((m : ℕ) → o ≡ Some m → m ≡ slot → ⊥) → IsBelow old k o → IsBelow rank k o
+  still_below : (k : ℕ) (o : Option ℕ) → (k ≡ slot → ⊥) → ((m : ℕ) → o ≡ Some m → m ≡ slot → ⊥) → ChainComesDown old k o → ChainComesDown rank k o
   still_below k None other others h = tt
   still_below k (Some m) other others h = omega (arith, h, other_rank k other, other_rank m (others m refl))
 
-  now_below : (o : Option ℕ) → ((m : ℕ) → o ≡ Some m → m ≡ slot → ⊥) → slot_rank old o ≤ top_rank slots old v.now → IsBelow rank slot o
+  now_below : (o : Option ℕ) → ((m : ℕ) → o ≡ Some m → m ≡ slot → ⊥) → slot_rank old o ≤ top_rank slots old v.now → ChainComesDown rank slot o
   now_below None others low = tt
   now_below (Some m) others low = omega (arith, low, own_rank, other_rank m (others m refl))
 

@@ -15,7 +15,7 @@ use Rattle.si_flat.specs.declared.Owner.{Owner}
 use Rattle.si_flat.specs.declared.met.Met.{Met}
 use Rattle.si_flat.specs.Rooms.{Room, IsNoLess}
 use Rattle.si_flat.specs.Flattened.{unnumbered}
-use Rattle.si_flat.specs.Flattening.{symbol_of_key, room_of, WalkState, walk_state, term_piece, Flattens, Fits}
+use Rattle.si_flat.specs.Flattening.{symbol_of_key, room_of, WalkState, walk_state, term_piece, Flattens, FitsRoom}
 use Rattle.si_flat.specs.FlatClauses.{literals_piece, clause_piece, clause_scheme, lacked_by, IsEnoughForClause}
 use Rattle.si_flat.proofs.RoomLaws.{fits_first, fits_second, length_term}
 use Rattle.si_flat.proofs.ClauseWalks.{literal_scheme, clause_cells}
@@ -23,8 +23,8 @@ use Rattle.si_flat.proofs.ClauseWalks.{literal_scheme, clause_cells}
 module _ (pairs : Numbering) where
   -- the first of some literals, and the others after it
   pub fits_literal : (room : Room) (a : WalkState) (l : Literal) (ls : List Literal)
-      → Fits pairs room a (literals_piece (l ∷ ls)) (literal_size l + literals_size ls)
-      → Fits pairs room a (term_piece l.atom) (literal_size l)
+      → FitsRoom pairs room a (literals_piece (l ∷ ls)) (literal_size l + literals_size ls)
+      → FitsRoom pairs room a (term_piece l.atom) (literal_size l)
   fits_literal room a l ls fits =
       fits_first pairs room a (term_piece l.atom) (literals_piece ls) (literal_size l) (literals_size ls)
       (record { cells = fits.cells; names = fits.names; symbols = fits.symbols })
@@ -32,8 +32,8 @@ module _ (pairs : Numbering) where
   pub fits_literals : (owner : Owner) (least : ℕ) (room more : Room) (a b : WalkState) (l : Literal) (ls : List Literal)
       → Flattens pairs (literal_scheme owner least l) a b (term_piece l.atom)
       → IsNoLess room more
-      → Fits pairs room a (literals_piece (l ∷ ls)) (literal_size l + literals_size ls)
-      → Fits pairs more b (literals_piece ls) (literals_size ls)
+      → FitsRoom pairs room a (literals_piece (l ∷ ls)) (literal_size l + literals_size ls)
+      → FitsRoom pairs more b (literals_piece ls) (literals_size ls)
   fits_literals owner least room more a b l ls walked no_less fits =
       fits_second pairs room more a b (term_piece l.atom) (literals_piece ls) (literal_size l) (literals_size ls) walked.names walked.extra
       (length_term pairs (literal_scheme owner least l) a b l.atom walked) no_less
@@ -45,8 +45,8 @@ module _ (pairs : Numbering) where
       → b.extra ≡ a.extra
       → length b.cells ≡ length a.cells + 1
       → IsNoLess room more
-      → Fits pairs room a (clause_piece ls) (1 + literals_size ls)
-      → Fits pairs more b (literals_piece ls) (literals_size ls)
+      → FitsRoom pairs room a (clause_piece ls) (1 + literals_size ls)
+      → FitsRoom pairs more b (literals_piece ls) (literals_size ls)
   fits_atoms room more a b ls names extra long no_less fits = record {
     cells = omega (arith, fits.cells, long, no_less.cells);
     names = omega (arith, fits.names, ap (λ l. length (insert_all bytes_eq l (literals_variables ls))) names, no_less.names);
@@ -63,7 +63,7 @@ module _ (pairs : Numbering) where
       → a.cells ≡ []
       → IsNoLess room more
       → IsEnoughForClause pairs ls room
-      → Fits pairs more a (clause_piece ls) (1 + literals_size ls)
+      → FitsRoom pairs more a (clause_piece ls) (1 + literals_size ls)
   enough_fits_clause room more a ls names extra cells no_less enough =
       let lacks = unnumbered pairs (literals_symbols ls) in
       let extra_is : insert_all same_symbol a.extra lacks ≡ lacked_by pairs ls =

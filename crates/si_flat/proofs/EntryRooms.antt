@@ -17,7 +17,7 @@ use Rattle.si_flat.specs.declared.walk.WrittenEntry.{WrittenEntry}
 use Rattle.si_flat.specs.Rooms.{Room, IsNoLess}
 use Rattle.si_defs.specs.Entries.{whole_of}
 use Rattle.si_flat.specs.Flattened.{unnumbered, is_positive, IsEnoughFor}
-use Rattle.si_flat.specs.Flattening.{symbol_of_key, room_of, WalkState, walk_state, empty_walk, entry_scheme, term_piece, Flattens, Fits, WritesEntry}
+use Rattle.si_flat.specs.Flattening.{symbol_of_key, room_of, WalkState, walk_state, empty_walk, entry_scheme, term_piece, Flattens, FitsRoom, WritesEntry}
 use Rattle.si_flat.proofs.FlattenLaws.{names_written, extra_written}
 use Rattle.si_flat.proofs.RoomLaws.{length_term}
 
@@ -28,7 +28,7 @@ pub enough_fits : (pairs : Numbering) (e : entries.Entry) (room more : Room) (st
     → start.cells ≡ []
     → IsNoLess room more
     → IsEnoughFor pairs e room
-    → Fits pairs more start (term_piece (whole_of e)) (terms.size (whole_of e))
+    → FitsRoom pairs more start (term_piece (whole_of e)) (terms.size (whole_of e))
 enough_fits pairs e room more start names extra cells no_less enough =
     let names_are : insert_all bytes_eq start.names (terms.variables (whole_of e)) ≡ entries.distinct_variables e =
     ap (λ l. insert_all bytes_eq l (terms.variables (whole_of e))) names

@@ -12,7 +12,7 @@ use Rattle.si_flat.specs.Cells.{Variable, cells_of}
 use Rattle.si_flat.specs.Numbered.{place_in, numbered}
 use Rattle.si_flat.specs.Rooms.{Room, IsNoLess}
 use Rattle.si_flat.specs.Flattened.{unnumbered}
-use Rattle.si_flat.specs.Flattening.{owners_variable, number_by, WalkState, WalkPiece, piece_then, term_piece, terms_piece, Flattens, Fits}
+use Rattle.si_flat.specs.Flattening.{owners_variable, number_by, WalkState, WalkPiece, piece_then, term_piece, terms_piece, Flattens, FitsRoom}
 use Rattle.si_flat.proofs.Subterms.{length-cells_of}
 use Rattle.si_flat.proofs.Walking.{unnumbered-append, numbered_size}
 
@@ -44,7 +44,7 @@ module _ (pairs : Numbering) where
       ∙ inserted-append same_symbol a.extra (unnumbered pairs p.symbols) (unnumbered pairs q.symbols)
 
   -- where a whole fits, its first part does
-  pub fits_first : (room : Room) (a : WalkState) (p q : WalkPiece) (m n : ℕ) → Fits pairs room a (piece_then p q) (m + n) → Fits pairs room a p m
+  pub fits_first : (room : Room) (a : WalkState) (p q : WalkPiece) (m n : ℕ) → FitsRoom pairs room a (piece_then p q) (m + n) → FitsRoom pairs room a p m
   fits_first room a p q m n fits = record {
     cells = omega (arith, fits.cells);
     names = omega (arith, fits.names, ap length (names_joined a p q), no_fewer bytes_eq (insert_all bytes_eq a.names p.variables) q.variables);
@@ -57,8 +57,8 @@ module _ (pairs : Numbering) where
       → b.extra ≡ insert_all same_symbol a.extra (unnumbered pairs p.symbols)
       → length b.cells ≡ length a.cells + m
       → IsNoLess room more
-      → Fits pairs room a (piece_then p q) (m + n)
-      → Fits pairs more b q n
+      → FitsRoom pairs room a (piece_then p q) (m + n)
+      → FitsRoom pairs more b q n
   fits_second room more a b p q m n names extra long no_less fits =
       let names_are : insert_all bytes_eq a.names (piece_then p q).variables ≡ insert_all bytes_eq b.names q.variables =
       names_joined a p q ∙ ap (λ l. insert_all bytes_eq l q.variables) (sym names) in
@@ -75,8 +75,8 @@ module _ (pairs : Numbering) where
   symbol_piece s = record { variables = []; symbols = s ∷ []; cells = λ number variable. [] }
 
   pub fits_symbol : (room : Room) (a : WalkState) (s : Symbol) (ts : clauses.Terms) (k : ℕ)
-      → Fits pairs room a (term_piece (terms.app s ts)) (1 + k)
-      → Fits pairs room a (symbol_piece s) 1
+      → FitsRoom pairs room a (term_piece (terms.app s ts)) (1 + k)
+      → FitsRoom pairs room a (symbol_piece s) 1
   fits_symbol room a s ts k fits =
       fits_first room a (symbol_piece s) (terms_piece ts) 1 k (record { cells = fits.cells; names = fits.names; symbols = fits.symbols })
 
@@ -85,8 +85,8 @@ module _ (pairs : Numbering) where
       → b.extra ≡ insert_all same_symbol a.extra (unnumbered pairs (s ∷ []))
       → length b.cells ≡ length a.cells + 1
       → IsNoLess room more
-      → Fits pairs room a (term_piece (terms.app s ts)) (1 + k)
-      → Fits pairs more b (terms_piece ts) k
+      → FitsRoom pairs room a (term_piece (terms.app s ts)) (1 + k)
+      → FitsRoom pairs more b (terms_piece ts) k
   fits_arguments room more a b s ts k names extra long no_less fits =
       fits_second room more a b (symbol_piece s) (terms_piece ts) 1 k names extra long no_less (record { cells = fits.cells; names = fits.names; symbols = fits.symbols })
 
@@ -101,15 +101,15 @@ module _ (pairs : Numbering) where
 
   -- the first of some terms, and the others after it
   pub fits_head : (room : Room) (a : WalkState) (t : clauses.Term) (ts : clauses.Terms)
-      → Fits pairs room a (terms_piece (terms.more t ts)) (terms.size t + terms.sizes ts)
-      → Fits pairs room a (term_piece t) (terms.size t)
+      → FitsRoom pairs room a (terms_piece (terms.more t ts)) (terms.size t + terms.sizes ts)
+      → FitsRoom pairs room a (term_piece t) (terms.size t)
   fits_head room a t ts fits = fits_first room a (term_piece t) (terms_piece ts) (terms.size t) (terms.sizes ts) fits
 
   pub fits_rest : (scheme : Scheme) (room more : Room) (a b : WalkState) (t : clauses.Term) (ts : clauses.Terms)
       → Flattens pairs scheme a b (term_piece t)
       → IsNoLess room more
-      → Fits pairs room a (terms_piece (terms.more t ts)) (terms.size t + terms.sizes ts)
-      → Fits pairs more b (terms_piece ts) (terms.sizes ts)
+      → FitsRoom pairs room a (terms_piece (terms.more t ts)) (terms.size t + terms.sizes ts)
+      → FitsRoom pairs more b (terms_piece ts) (terms.sizes ts)
   fits_rest scheme room more a b t ts walked no_less fits =
       fits_second room more a b (term_piece t) (terms_piece ts) (terms.size t) (terms.sizes ts) walked.names walked.extra (length_term scheme a b t walked) no_less fits
 
@@ -118,24 +118,24 @@ module _ (pairs : Numbering) where
   size_some (terms.var x) = omega arith
   size_some (terms.app s ts) = omega arith
 
-  pub cell_refused : (room : Room) (a : WalkState) (t : clauses.Term) → room.cells ≤ length a.cells → Fits pairs room a (term_piece t) (terms.size t) → ⊥
+  pub cell_refused : (room : Room) (a : WalkState) (t : clauses.Term) → room.cells ≤ length a.cells → FitsRoom pairs room a (term_piece t) (terms.size t) → ⊥
   cell_refused room a t full fits = omega (arith, full, fits.cells, size_some t)
 
   pub variable_refused : (room : Room) (a : WalkState) (x : Bytes) (t : clauses.Term)
       → t ≡ terms.var x
       → room.names < length (insert_all bytes_eq a.names (x ∷ []))
-      → Fits pairs room a (term_piece t) (terms.size t)
+      → FitsRoom pairs room a (term_piece t) (terms.size t)
       → ⊥
   variable_refused room a x t is full fits =
-      let here = subst (λ u. Fits pairs room a (term_piece u) (terms.size u)) is fits in omega (arith, here.names, full)
+      let here = subst (λ u. FitsRoom pairs room a (term_piece u) (terms.size u)) is fits in omega (arith, here.names, full)
 
   pub symbol_refused : (room : Room) (a : WalkState) (s : Symbol) (ts : clauses.Terms) (t : clauses.Term)
       → t ≡ terms.app s ts
       → room.symbols < length (insert_all same_symbol a.extra (unnumbered pairs (s ∷ [])))
-      → Fits pairs room a (term_piece t) (terms.size t)
+      → FitsRoom pairs room a (term_piece t) (terms.size t)
       → ⊥
   symbol_refused room a s ts t is full fits =
-      let here = subst (λ u. Fits pairs room a (term_piece u) (terms.size u)) is fits in
+      let here = subst (λ u. FitsRoom pairs room a (term_piece u) (terms.size u)) is fits in
       omega (arith, (fits_symbol room a s ts (terms.sizes ts) here).symbols, full)
 
   pub arguments_refused : (room more : Room) (a b : WalkState) (s : Symbol) (ts : clauses.Terms) (t : clauses.Term)
@@ -144,8 +144,8 @@ module _ (pairs : Numbering) where
       → b.extra ≡ insert_all same_symbol a.extra (unnumbered pairs (s ∷ []))
       → length b.cells ≡ length a.cells + 1
       → IsNoLess room more
-      → (Fits pairs more b (terms_piece ts) (terms.sizes ts) → ⊥)
-      → Fits pairs room a (term_piece t) (terms.size t)
+      → (FitsRoom pairs more b (terms_piece ts) (terms.sizes ts) → ⊥)
+      → FitsRoom pairs room a (term_piece t) (terms.size t)
       → ⊥
   arguments_refused room more a b s ts t is names extra long no_less refused fits =
-      refused (fits_arguments room more a b s ts (terms.sizes ts) names extra long no_less (subst (λ u. Fits pairs room a (term_piece u) (terms.size u)) is fits))
+      refused (fits_arguments room more a b s ts (terms.sizes ts) names extra long no_less (subst (λ u. FitsRoom pairs room a (term_piece u) (terms.size u)) is fits))

@@ -116,7 +116,7 @@ pub record Flattens (pairs : Numbering) (scheme : Scheme) (old new : WalkState)
       (λ x. owners_variable scheme.owner (place_in bytes_eq (new.names ++ xs) x))
 
 -- Once so many cells are written, and what is met is met, there is no more than fits.
-pub record Fits (pairs : Numbering) (room : Room) (old : WalkState) (piece : WalkPiece)
+pub record FitsRoom (pairs : Numbering) (room : Room) (old : WalkState) (piece : WalkPiece)
     (size : ℕ) : Type 0 where
   pub cells : length old.cells + size ≤ room.cells
   pub names : length (insert_all bytes_eq old.names piece.variables) ≤ room.names

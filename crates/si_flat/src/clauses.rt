@@ -3,7 +3,7 @@ ghost use Rattle.std.specs.Prelude.{◌≡◌, ◌+◌, [], IfOk, OnOk, OnErr, m
 ghost use Rattle.si_defs.specs.Clauses.{AreSoundLiterals, literals_size};
 ghost use Rattle.si_term.specs.Meaning.{literal_of};
 ghost use Rattle.si_flat.specs.Rooms.{IsNoLess};
-ghost use Rattle.si_flat.specs.Flattening.{MayMeet, Flattens, Fits, room_of, walk_state};
+ghost use Rattle.si_flat.specs.Flattening.{MayMeet, Flattens, FitsRoom, room_of, walk_state};
 ghost use Rattle.si_flat.specs.FlatClauses.{FlattensClause, FlattensClauses, IsEnoughForClause, clause_scheme, literals_piece, clause_piece};
 
 use crate::met::{FIRST_EXTRA, Met};
@@ -190,7 +190,7 @@ fn write_clause<'a, T: SymTable>(
     ensures flat { OnOk result (Flattens (T.pairs table.now) (clause_scheme owner first)
         (walk_state met.old []) (walk_state met.new cells.new.items)
         (clause_piece (map literal_of literals.now))) }
-    ensures full { OnErr result (Fits (T.pairs table.now)
+    ensures full { OnErr result (FitsRoom (T.pairs table.now)
         (room_of met.old (vec_capacity cells.old)) (walk_state met.old [])
         (clause_piece (map literal_of literals.now))
         (1 + literals_size (map literal_of literals.now)) → ⊥) }
@@ -221,7 +221,7 @@ fn write_literals<'a, T: SymTable>(
     ensures flat { OnOk result (Flattens (T.pairs table.now) (clause_scheme owner first)
         (walk_state met.old cells.old.items) (walk_state met.new cells.new.items)
         (literals_piece (map literal_of literals.now))) }
-    ensures full { OnErr result (Fits (T.pairs table.now)
+    ensures full { OnErr result (FitsRoom (T.pairs table.now)
         (room_of met.old (vec_capacity cells.old)) (walk_state met.old cells.old.items)
         (literals_piece (map literal_of literals.now))
         (literals_size (map literal_of literals.now)) → ⊥) }

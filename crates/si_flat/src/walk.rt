@@ -9,7 +9,7 @@ ghost use Rattle.si_flat.specs.Cells.{variable_cell};
 ghost use Rattle.si_flat.specs.Rooms.{IsNoLess};
 ghost use Rattle.si_defs.specs.Entries.{whole_of};
 ghost use Rattle.si_flat.specs.Flattened.{is_positive, IsEnoughFor};
-ghost use Rattle.si_flat.specs.Flattening.{owners_variable, met_names, met_extra, room_of, walk_state, MayMeet, Flattens, Fits, WritesEntry, term_piece, terms_piece};
+ghost use Rattle.si_flat.specs.Flattening.{owners_variable, met_names, met_extra, room_of, walk_state, MayMeet, Flattens, FitsRoom, WritesEntry, term_piece, terms_piece};
 
 use crate::met::{FIRST_EXTRA, Met};
 use crate::{Cell, Owner};
@@ -124,7 +124,7 @@ pub(crate) fn write_term<'a, T: SymTable>(
     ensures flat { OnOk result (Flattens (T.pairs table.now) scheme
         (walk_state met.old cells.old.items) (walk_state met.new cells.new.items)
         (term_piece (term_of term.now))) }
-    ensures full { OnErr result (Fits (T.pairs table.now)
+    ensures full { OnErr result (FitsRoom (T.pairs table.now)
         (room_of met.old (vec_capacity cells.old)) (walk_state met.old cells.old.items)
         (term_piece (term_of term.now)) (size (term_of term.now)) → ⊥) }
     ensures keeps { IsNoLess (room_of met.old (vec_capacity cells.old))
@@ -180,7 +180,7 @@ fn write_terms<'a, T: SymTable>(
     ensures flat { OnOk result (Flattens (T.pairs table.now) scheme
         (walk_state met.old cells.old.items) (walk_state met.new cells.new.items)
         (terms_piece (row (map term_of terms.now)))) }
-    ensures full { OnErr result (Fits (T.pairs table.now)
+    ensures full { OnErr result (FitsRoom (T.pairs table.now)
         (room_of met.old (vec_capacity cells.old)) (walk_state met.old cells.old.items)
         (terms_piece (row (map term_of terms.now))) (sizes (row (map term_of terms.now))) → ⊥) }
     ensures keeps { IsNoLess (room_of met.old (vec_capacity cells.old))

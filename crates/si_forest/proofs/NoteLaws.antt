@@ -5,7 +5,7 @@ use Rattle.std.proofs.lemmas.List.{drop-append-le, get_or-set_other, get_or-set_
 use Rattle.std.proofs.Math.Seq.{drop-append_seam, take-length}
 use Rattle.si_forest.specs.Locations.{Location}
 use Rattle.si_forest.specs.declared.notes.Span.{Span}
-use Rattle.si_forest.specs.Notes.{notes_in, no_span, keyed_span, IsWithin, AreWithin}
+use Rattle.si_forest.specs.Notes.{notes_in, no_span, keyed_span, IsSpanWithin, AreSpansWithin}
 
 -- ---- one span
 -- at the end of a list
@@ -17,13 +17,13 @@ span_last xs ys span start len =
     ∙ take-length ys
 
 -- in a list that has become longer
-pub span_more : (xs ys : List Location) (span : Span) → IsWithin (length xs) span → notes_in (xs ++ ys) span ≡ notes_in xs span
+pub span_more : (xs ys : List Location) (span : Span) → IsSpanWithin (length xs) span → notes_in (xs ++ ys) span ≡ notes_in xs span
 span_more xs ys span within =
     let front : span.start ≤ length xs = omega (arith, within) in
     let rest : span.len ≤ length (drop span.start xs) = omega (arith, within, length-drop span.start xs) in
     ap (take span.len) (drop-append-le span.start xs ys front) ∙ take-append-le span.len (drop span.start xs) ys rest
 
-pub within_more : (xs ys : List Location) (spans : List Span) → AreWithin (length xs) spans → AreWithin (length (xs ++ ys)) spans
+pub within_more : (xs ys : List Location) (spans : List Span) → AreSpansWithin (length xs) spans → AreSpansWithin (length (xs ++ ys)) spans
 within_more xs ys spans within key = omega (arith, within key, length-append xs ys)
 
 -- ---- all spans
@@ -35,17 +35,17 @@ none_more (span ∷ spans) zero = refl
 none_more (span ∷ spans) (suc key) = none_more spans key
 
 -- another span at one key
-pub within_set : (n : ℕ) (spans : List Span) (key : ℕ) (span : Span) → key < length spans → AreWithin n spans → IsWithin n span → AreWithin n (set spans key span)
+pub within_set : (n : ℕ) (spans : List Span) (key : ℕ) (span : Span) → key < length spans → AreSpansWithin n spans → IsSpanWithin n span → AreSpansWithin n (set spans key span)
 within_set n spans key span place within fits k =
-    elim (eqb_tells k key) as (λ _. IsWithin n (keyed_span (set spans key span) k)) [
-      | inl same ↦ subst (IsWithin n) (sym (ap (keyed_span (set spans key span)) same.1 ∙ get_or-set_same spans key span no_span place)) fits
-      | inr differs ↦ subst (IsWithin n) (sym (get_or-set_other spans key k span no_span differs.1)) (within k)
+    elim (eqb_tells k key) as (λ _. IsSpanWithin n (keyed_span (set spans key span) k)) [
+      | inl same ↦ subst (IsSpanWithin n) (sym (ap (keyed_span (set spans key span)) same.1 ∙ get_or-set_same spans key span no_span place)) fits
+      | inr differs ↦ subst (IsSpanWithin n) (sym (get_or-set_other spans key k span no_span differs.1)) (within k)
     ]
 
 -- ---- notes that are written one after the other
 -- those of so many keys are written
 pub record AreWritten (locations : List Location) (spans : List Span) (written : List Location) (made : List Span) : Type 0 where
-  pub within : AreWithin (length written) made
+  pub within : AreSpansWithin (length written) made
   pub same : (key : ℕ) → key < length made → notes_in written (keyed_span made key) ≡ notes_in locations (keyed_span spans key)
 
 module _ (locations : List Location) (spans : List Span) where
@@ -55,13 +55,13 @@ module _ (locations : List Location) (spans : List Span) where
     same = λ key less. absurd (omega (arith, less));
   }
 
-  module _ (written more : List Location) (made : List Span) (span : Span) (so_far : AreWritten locations spans written made) (more_is : notes_in (written ++ more) span ≡ more) (read : more ≡ notes_in locations (keyed_span spans (length made))) (fits : IsWithin (length (written ++ more)) span) where
+  module _ (written more : List Location) (made : List Span) (span : Span) (so_far : AreWritten locations spans written made) (more_is : notes_in (written ++ more) span ≡ more) (read : more ≡ notes_in locations (keyed_span spans (length made))) (fits : IsSpanWithin (length (written ++ more)) span) where
     pub written_more : AreWritten locations spans (written ++ more) (made ++ span ∷ [])
     written_more = record {
-      within = λ key. elim (below_or key) as (λ _. IsWithin (length (written ++ more)) (keyed_span (made ++ span ∷ []) key)) [
-        | inl less ↦ subst (IsWithin (length (written ++ more))) (sym (get_or_append_left made (span ∷ []) no_span key less)) (within_more written more made so_far.within key)
-        | inr (inl last) ↦ subst (IsWithin (length (written ++ more))) (sym (get_or_push made span no_span key (sym last))) fits
-        | inr (inr past) ↦ subst (IsWithin (length (written ++ more))) (sym (get_or_past (made ++ span ∷ []) key no_span past)) (omega arith)
+      within = λ key. elim (below_or key) as (λ _. IsSpanWithin (length (written ++ more)) (keyed_span (made ++ span ∷ []) key)) [
+        | inl less ↦ subst (IsSpanWithin (length (written ++ more))) (sym (get_or_append_left made (span ∷ []) no_span key less)) (within_more written more made so_far.within key)
+        | inr (inl last) ↦ subst (IsSpanWithin (length (written ++ more))) (sym (get_or_push made span no_span key (sym last))) fits
+        | inr (inr past) ↦ subst (IsSpanWithin (length (written ++ more))) (sym (get_or_past (made ++ span ∷ []) key no_span past)) (omega arith)
       ];
       same = λ key less. elim (below_or key) as (λ _. notes_in (written ++ more) (keyed_span (made ++ span ∷ []) key) ≡ notes_in locations (keyed_span spans key)) [
         | inl before ↦ ap (notes_in (written ++ more)) (get_or_append_left made (span ∷ []) no_span key before) ∙ span_more written more (keyed_span made key) (so_far.within key) ∙ so_far.same key before

@@ -10,7 +10,7 @@ use Rattle.si_legal.specs.StoredSets.{AreUnder, IsUnder, OthersStay, Gains, Lose
 use Rattle.si_changes.proofs.EqualTerms.{term_or_not}
 use Rattle.si_insert.specs.Inserting.{Inserts, KeepsAll}
 use Rattle.si_insert.proofs.AnewLaws.{stored_there}
-use Rattle.si_prune.specs.Pruning.{Removes}
+use Rattle.si_prune.specs.Pruning.{RemovesPosting}
 use Rattle.si_forest.specs.OnePosting.{GainsOne, KeepsTree, LosesOne}
 use Rattle.si_flat.specs.declared.Cell.{Cell}
 use Rattle.si_flat.specs.Cells.{StandsFor}
@@ -106,7 +106,7 @@ kept old new legal k = record {
   keeps = k.1;
 }
 
-pub removed : (old new : Tree Term) (key : ℕ) (t : Term) (p : Posting) → IsLegal old → IsLegal new → StandsIn old key t p → Removes old new key p → LosesOne old new p key
+pub removed : (old new : Tree Term) (key : ℕ) (t : Term) (p : Posting) → IsLegal old → IsLegal new → StandsIn old key t p → RemovesPosting old new key p → LosesOne old new p key
 removed old new key t p legal legal_new stands r = record {
   legal = legal_new;
   stood = (t, stands);

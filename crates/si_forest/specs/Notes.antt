@@ -19,14 +19,14 @@ abbrev pub notes_of : Notes → ℕ → List Location
 notes_of notes key = notes_in notes.locations.items (keyed_span notes.spans.items key)
 
 -- the span is a part of a list of so many
-abbrev pub IsWithin : ℕ → Span → Type 0
-IsWithin n span = span.start + span.len ≤ n
+abbrev pub IsSpanWithin : ℕ → Span → Type 0
+IsSpanWithin n span = span.start + span.len ≤ n
 
-abbrev pub AreWithin : ℕ → List Span → Type 0
-AreWithin n spans = (key : ℕ) → IsWithin n (keyed_span spans key)
+abbrev pub AreSpansWithin : ℕ → List Span → Type 0
+AreSpansWithin n spans = (key : ℕ) → IsSpanWithin n (keyed_span spans key)
 
 abbrev pub AreSpans : Notes → Type 0
-AreSpans notes = AreWithin (length notes.locations.items) notes.spans.items
+AreSpans notes = AreSpansWithin (length notes.locations.items) notes.spans.items
 
 -- the notes of all keys are as they were
 abbrev pub KeepNotes : Notes → Notes → Type 0
@@ -38,7 +38,7 @@ pub record HasNotes (old new : Notes) (key : ℕ) (notes : List Location) : Type
   pub others : (other : ℕ) → other ≢ key → notes_of new other ≡ notes_of old other
 
 -- so many more fit into the list, and 32 bits count them, and those before them
-pub record HasRoom {A : Type 0} (locations : Vec Location A) (more : ℕ) : Type 0 where
+pub record HasRoomForLocations {A : Type 0} (locations : Vec Location A) (more : ℕ) : Type 0 where
   pub room : length locations.items + more ≤ vec_capacity locations
   pub start : length locations.items < 2 ^ 32
   pub len : more < 2 ^ 32
@@ -46,4 +46,4 @@ pub record HasRoom {A : Type 0} (locations : Vec Location A) (more : ℕ) : Type
 -- the key may be given so many notes
 pub record HasPlace (notes : Notes) (key count : ℕ) : Type 0 where
   pub place : key < length notes.spans.items
-  pub room : HasRoom notes.locations count
+  pub room : HasRoomForLocations notes.locations count

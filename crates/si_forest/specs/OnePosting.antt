@@ -5,7 +5,7 @@ use Rattle.si_legal.specs.declared.Posting.{Posting}
 use Rattle.si_legal.specs.Trees.{Tree, StandsIn}
 use Rattle.si_legal.specs.Legal.{IsLegal}
 use Rattle.si_legal.specs.StoredSets.{IsUnder, KeepsLeaves}
-use Rattle.si_prune.specs.Pruning.{Removes}
+use Rattle.si_prune.specs.Pruning.{RemovesPosting}
 
 -- the same is stored, in the same leaves
 pub record KeepsTree (old new : Tree Term) : Type 0 where
@@ -27,4 +27,4 @@ pub record LosesOne (old new : Tree Term) (p : Posting) (leaf : ℕ) : Type 0 wh
   pub legal : IsLegal new
   pub stood : (t : Term) × StandsIn old leaf t p
   pub stored : (u : Term) (q : Posting) → IsUnder new u q ↔ (IsUnder old u q × (q ≢ p))
-  pub removes : Removes old new leaf p
+  pub removes : RemovesPosting old new leaf p

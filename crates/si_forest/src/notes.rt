@@ -1,6 +1,6 @@
 // Where the postings of all clauses stand.
 ghost use Rattle.std.specs.Prelude.{◌≡◌, ◌<◌, ℕ, [], ◌++◌, IfOk, OnOk, length};
-ghost use Rattle.si_forest.specs.Notes.{notes_in, notes_of, keyed_span, AreSpans, HasNotes, HasPlace, HasRoom, IsWithin, KeepNotes};
+ghost use Rattle.si_forest.specs.Notes.{notes_in, notes_of, keyed_span, AreSpans, HasNotes, HasPlace, HasRoomForLocations, IsSpanWithin, KeepNotes};
 
 use crate::location::Location;
 use std::alloc::{AllocError, Global};
@@ -86,7 +86,7 @@ impl Notes {
     fn put(&mut self, key: usize, span: Span)
         requires spans { AreSpans self.old }
         requires place { key < length self.old.spans.items }
-        requires within { IsWithin (length self.old.locations.items) span }
+        requires within { IsSpanWithin (length self.old.locations.items) span }
         ensures spans { AreSpans self.new }
         ensures put { HasNotes self.old self.new key (notes_in self.old.locations.items span) }
     {
@@ -146,10 +146,10 @@ fn make_place(spans: &mut Vec<Span>, key: usize) -> Result<(), AllocError>
 
 // Appends notes, for which there is room, and answers their span.
 fn append(locations: &mut Vec<Location>, notes: &[Location]) -> Span
-    requires { HasRoom locations.old (length notes.now) }
+    requires { HasRoomForLocations locations.old (length notes.now) }
     ensures items { locations.new.items ≡ locations.old.items ++ notes.now }
     ensures span { notes_in locations.new.items result ≡ notes.now }
-    ensures within { IsWithin (length locations.new.items) result }
+    ensures within { IsSpanWithin (length locations.new.items) result }
 {
     let span = Span {
         start: locations.len() as u32,
@@ -165,7 +165,7 @@ fn append(locations: &mut Vec<Location>, notes: &[Location]) -> Span
 // bits don't count them, or those before them, it is answered as want of memory.
 fn make_room(locations: &mut Vec<Location>, more: usize) -> Result<(), AllocError>
     ensures same { locations.new.items ≡ locations.old.items }
-    ensures room { OnOk result (HasRoom locations.new more) }
+    ensures room { OnOk result (HasRoomForLocations locations.new more) }
 {
     let len = locations.len();
     if len > u32::MAX as usize || more > u32::MAX as usize {

@@ -7,7 +7,7 @@ ghost use Rattle.si_legal.specs.Trees.{StandsIn};
 ghost use Rattle.si_legal.specs.StoredSets.{IsUnder};
 ghost use Rattle.si_descend.specs.Answers.{Retrieves};
 ghost use Rattle.si_descend.specs.Counting.{CountsAnswers};
-ghost use Rattle.si_descend.specs.Descending.{IsQuery};
+ghost use Rattle.si_descend.specs.Descending.{AreQueryCells};
 ghost use Rattle.si_held.specs.TwoTrees.{AddsClause, AreLegal, HoldSame, MayAddClause, RemovesClause, tree_for};
 ghost use Rattle.si_forest.specs.Pairs.{AreAlone, LoseEach};
 
@@ -134,7 +134,7 @@ impl Trees {
         query: &Flat,
         out: &mut Vec<Posting>,
     ) -> Result<u64, AllocError>
-        requires { IsQuery query.now }
+        requires { AreQueryCells query.now }
         ensures retrieves { IfOk result (Retrieves (tree_for literal self.now) relation query.now
             out.old.items out.new.items) }
         ensures err { OnErr result (out.new.items ≡ out.old.items) }
@@ -158,7 +158,7 @@ impl Trees {
         relation: Relation,
         query: &Flat,
     ) -> Result<Counted, AllocError>
-        requires { IsQuery query.now }
+        requires { AreQueryCells query.now }
         ensures { IfOk result (CountsAnswers (tree_for literal self.now) relation query.now) }
     {
         si_descend::count(self.alloc, memory, self.pair.tree(literal), relation, query)

@@ -11,7 +11,7 @@ use Rattle.si_flat.proofs.Subterms.{length-cells_of}
 use Rattle.si_trail.specs.Trails.{value_at}
 use Rattle.si_unify.specs.declared.slots.Slots.{Slots}
 use Rattle.si_unify.specs.Solving.{Pairs, slot_count, variable_of, CellIsInRange, Equalizes, IsSolvedBy, IsAcyclic, IsBinding}
-use Rattle.si_unify.specs.Spots.{cell_slot, IsBelow, ComesDown, IsChained}
+use Rattle.si_unify.specs.Spots.{cell_slot, ChainComesDown, ComesDown, IsChained}
 use Rattle.si_unify.proofs.Places.{value_holds, whole_at, first_cell, cell-at, inside, in_range-at, in_range-variable, variable_of-slot_of, slot_variable}
 use Rattle.si_unify.proofs.Ranks.{chained_of_triangular}
 use Rattle.si_unify.proofs.Binding.{slot_below}
@@ -40,7 +40,7 @@ variable_slot slots (ind n) e = cc
 
 next_below : (slots : Slots) (rank : ℕ → ℕ) (slot next : ℕ) (cells : List Cell) → 0 < length cells → ComesDown slots rank slot cells → cell_slot slots (get_or cells 0 no_cell) ≡ Some next → rank next < rank slot
 next_below slots rank slot next [] less down e = absurd (omega (arith, less))
-next_below slots rank slot next (c ∷ cells) less down e = subst (IsBelow rank slot) e down
+next_below slots rank slot next (c ∷ cells) less down e = subst (ChainComesDown rank slot) e down
 
 module _ (slots : Slots) (pairs : Pairs) (bindings : AllByRecursion (IsBinding slots) pairs) (slot at k : ℕ) (h : IsDown slots pairs slot at k) where
   pub down_unbound : value_at pairs at ≡ None → IsBoundTo slots pairs slot None

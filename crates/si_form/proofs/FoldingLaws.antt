@@ -14,8 +14,8 @@ use Rattle.si_unify.specs.Solving.{variable_of}
 use Rattle.si_unify.proofs.Rows.{join-more, join-none}
 use Rattle.si_form.specs.declared.classes.Node.{Node}
 use Rattle.si_form.specs.declared.classes.Node.TheVariants.{Variable as Of, Head, With}
-use Rattle.si_form.specs.Classes.{with_last, StandsForNode, AreNodes}
-use Rattle.si_form.specs.Folding.{same_numbered, same_terms, same_rows, or_slot, leader_below, LeadClasses, HaveKnown, HasSymbol, Descends, HasDescended, IsDescending, HasTerms, IsBefore, AreSizes, node_size, part_size}
+use Rattle.si_form.specs.Classes.{with_last, IsTermOfNode, AreNodes}
+use Rattle.si_form.specs.Folding.{same_numbered, same_terms, same_rows, or_slot, leader_below, LeadClasses, HaveKnown, HasSymbol, UnfoldsClass, HasUnfolded, IsUnfolding, HasTerms, HasEarlierParts, AreSizes, node_size, part_size}
 use Rattle.si_flat.proofs.VariableLaws.{variable_is, variable_self}
 use Rattle.si_form.proofs.NodeLaws.{known_of}
 use Rattle.si_form.proofs.Vocabularies.{number_tells, number_itself}
@@ -115,7 +115,7 @@ all_fresh x n k old new none zero_is is =
     is ∙ ap (λ l. l ++ replicate (n - k) x) (take_none n old none) ∙ ap (λ m. replicate m x) few
 
 -- ---- from a class to its symbol
-pub descending_begins : (nodes : List Node) (left : List ℕ) (class : ℕ) → IsDescending nodes left left class class
+pub descending_begins : (nodes : List Node) (left : List ℕ) (class : ℕ) → IsUnfolding nodes left left class class
 descending_begins nodes left class slots known s ts rest are class_is have = record {
   before = ts;
   behind = terms.none;
@@ -124,15 +124,15 @@ descending_begins nodes left class slots known s ts rest are class_is have = rec
   piled = have;
 }
 
-front_known : (slots : Slots) (nodes : List Node) (known : List Term) (n : ℕ) (node : Node) (s : Symbol) (ts : Terms) → AreNodes slots nodes known → slice_get nodes n ≡ Some node → slice_get known n ≡ Some (terms.app s ts) → StandsForNode slots known n node (terms.app s ts)
+front_known : (slots : Slots) (nodes : List Node) (known : List Term) (n : ℕ) (node : Node) (s : Symbol) (ts : Terms) → AreNodes slots nodes known → slice_get nodes n ≡ Some node → slice_get known n ≡ Some (terms.app s ts) → IsTermOfNode slots known n node (terms.app s ts)
 front_known slots nodes known n node s ts are at_node at_term = are.stands n node (terms.app s ts) at_node at_term
 
-pub descending_more : (nodes : List Node) (left left1 left2 : List ℕ) (class front before argument : ℕ) → IsDescending nodes left left1 class front → Some (With before argument) ≡ slice_get nodes front → left2 ≡ argument ∷ left1 → IsDescending nodes left left2 class before
+pub descending_more : (nodes : List Node) (left left1 left2 : List ℕ) (class front before argument : ℕ) → IsUnfolding nodes left left1 class front → Some (With before argument) ≡ slice_get nodes front → left2 ≡ argument ∷ left1 → IsUnfolding nodes left left2 class before
 descending_more nodes left left1 left2 class front before argument h node pushed slots known s ts rest are class_is have =
     let d = h slots known s ts rest are class_is have in
     let m = front_known slots nodes known front (With before argument) s d.before are (sym node) d.front_is in
     let same = same_app s m.symbol d.before (with_last m.arguments m.last) m.term_is in
-    subst (λ l. HasDescended known l s ts rest before) (sym pushed) (record {
+    subst (λ l. HasUnfolded known l s ts rest before) (sym pushed) (record {
       before = m.arguments;
       behind = terms.more m.last d.behind;
       parts = d.parts ∙ ap (λ us. join us d.behind) same.1 ∙ join-more m.arguments d.behind m.last;
@@ -141,7 +141,7 @@ descending_more nodes left left1 left2 class front before argument h node pushed
     })
 
 -- the node of such a class
-symbol_node : (nodes : List Node) (front : ℕ) (node : Node) (h : HasSymbol nodes front) → Some node ≡ slice_get nodes front → StandsForNode h.slots h.known front node (terms.app h.symbol h.arguments)
+symbol_node : (nodes : List Node) (front : ℕ) (node : Node) (h : HasSymbol nodes front) → Some node ≡ slice_get nodes front → IsTermOfNode h.slots h.known front node (terms.app h.symbol h.arguments)
 symbol_node nodes front node h at = front_known h.slots nodes h.known front node h.symbol h.arguments h.are (sym at) h.class_is
 
 pub descending_lower : (nodes : List Node) (front before argument : ℕ) → HasSymbol nodes front → Some (With before argument) ≡ slice_get nodes front → before < front
@@ -165,7 +165,7 @@ symbol_there nodes front h none =
     let r = get_some nodes front (symbol_inside nodes front h) in
     let bad : None ≡ Some r.0 = none ∙ r.1 in cc
 
-pub descending_ends : (nodes : List Node) (left left1 : List ℕ) (class front a b : ℕ) → IsDescending nodes left left1 class front → Some (Head a b) ≡ slice_get nodes front → Descends nodes left left1 class (a, b)
+pub descending_ends : (nodes : List Node) (left left1 : List ℕ) (class front a b : ℕ) → IsUnfolding nodes left left1 class front → Some (Head a b) ≡ slice_get nodes front → UnfoldsClass nodes left left1 class (a, b)
 descending_ends nodes left left1 class front a b h node slots known s ts rest are class_is have =
     let d = h slots known s ts rest are class_is have in
     let m = front_known slots nodes known front (Head a b) s d.before are (sym node) d.front_is in
@@ -176,7 +176,7 @@ descending_ends nodes left left1 class front a b h node slots known s ts rest ar
     )
 
 -- ---- sizes
-pub is_before : (nodes : List Node) (n : ℕ) (node : Node) → HasTerms nodes → Some node ≡ slice_get nodes n → IsBefore n node
+pub is_before : (nodes : List Node) (n : ℕ) (node : Node) → HasTerms nodes → Some node ≡ slice_get nodes n → HasEarlierParts n node
 is_before nodes n (Of slot) has at = tt
 is_before nodes n (Head s a) has at = tt
 is_before nodes n (With p q) has at = let m = (known_of has.0 nodes has.1 has.2 n (With p q) (sym at)).2 in (m.front_before, m.argument_before)
@@ -184,14 +184,14 @@ is_before nodes n (With p q) has at = let m = (known_of has.0 nodes has.1 has.2 
 pub sizes_begin : (nodes : List Node) (leaders : List (Option ℕ)) (sizes : List ℕ) → sizes ≡ [] → AreSizes nodes leaders 0 sizes
 sizes_begin nodes leaders sizes none = record { long = ap length none; sizes_are = λ n node less at. absurd (omega (arith, less)) }
 
-size_front : (sizes more : List ℕ) (leaders : List (Option ℕ)) (node : Node) → IsBefore (length sizes) node → node_size (sizes ++ more) leaders node ≡ node_size sizes leaders node
+size_front : (sizes more : List ℕ) (leaders : List (Option ℕ)) (node : Node) → HasEarlierParts (length sizes) node → node_size (sizes ++ more) leaders node ≡ node_size sizes leaders node
 size_front sizes more leaders (Of slot) h = refl
 size_front sizes more leaders (Head s a) h = refl
 size_front sizes more leaders (With p q) h =
     ap (λ x. min (x + part_size (get_or leaders q None) (get_or (sizes ++ more) q 0)) (2 ^ 32 - 1)) (get_or_front sizes more p 0 h.0)
     ∙ ap (λ x. min (get_or sizes p 0 + part_size (get_or leaders q None) x) (2 ^ 32 - 1)) (get_or_front sizes more q 0 h.1)
 
-later_before : (m n : ℕ) (node : Node) → m ≤ n → IsBefore m node → IsBefore n node
+later_before : (m n : ℕ) (node : Node) → m ≤ n → HasEarlierParts m node → HasEarlierParts n node
 later_before m n (Of slot) less h = tt
 later_before m n (Head s a) less h = tt
 later_before m n (With p q) less h = (omega (arith, less, h.0), omega (arith, less, h.1))
@@ -200,7 +200,7 @@ pub sizes_more : (nodes : List Node) (leaders : List (Option ℕ)) (sizes new : 
 sizes_more nodes leaders sizes new k size node has at h size_is is = subst (AreSizes nodes leaders (k + 1)) (sym is) (record {
   long = length-append sizes (size ∷ []) ∙ omega (arith, h.long);
   sizes_are = λ n other less here.
-      let before : IsBefore (length sizes) other = later_before n (length sizes) other (omega (arith, less, h.long)) (is_before nodes n other has (sym here)) in
+      let before : HasEarlierParts (length sizes) other = later_before n (length sizes) other (omega (arith, less, h.long)) (is_before nodes n other has (sym here)) in
       let same : node_size (sizes ++ size ∷ []) leaders other ≡ node_size sizes leaders other = size_front sizes (size ∷ []) leaders other before in
       elim (eqb_tells n k) [
         | inl e ↦

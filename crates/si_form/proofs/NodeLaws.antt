@@ -16,7 +16,7 @@ use Rattle.si_unify.proofs.Rows.{count-join, join-none, join-more}
 use Rattle.si_form.specs.declared.classes.Node.{Node}
 use Rattle.si_form.specs.declared.classes.Node.TheVariants.{Variable as Of, Head, With}
 use Rattle.si_form.specs.contracts.classes.NodePartialEq.TheImpl.{eq-value}
-use Rattle.si_form.specs.Classes.{Interns, with_last, HasOneMore, StandsForNode, AreNodes, GrowsTo, HaveClasses, Applies, HasApplied, IsApplying}
+use Rattle.si_form.specs.Classes.{Interns, with_last, HasOneMore, IsTermOfNode, AreNodes, GrowsTo, HaveClasses, Applies, HasApplied, IsApplying}
 
 -- ---- equal nodes
 eq_tells : (a b : Node) → eq-value.it a b ≡ true → a ≡ b
@@ -102,7 +102,7 @@ pub same_slots : (slots : Slots) (m n : ℕ) → variable_of slots m ≡ variabl
 same_slots slots m n e = sym (slot_again slots m) ∙ ap (slot_of slots) e ∙ slot_again slots n
 
 -- ---- what nodes stand for
-node_known : (slots : Slots) (known more : List Term) (n : ℕ) (node : Node) (t : Term) → StandsForNode slots known n node t → StandsForNode slots (known ++ more) n node t
+node_known : (slots : Slots) (known more : List Term) (n : ℕ) (node : Node) (t : Term) → IsTermOfNode slots known n node t → IsTermOfNode slots (known ++ more) n node t
 node_known slots known more n (Of k) t h = h
 node_known slots known more n (Head s a) t h = h
 node_known slots known more n (With p q) t h = record {
@@ -116,7 +116,7 @@ node_known slots known more n (With p q) t h = record {
   argument_before = h.argument_before;
 }
 
-node_term : (slots : Slots) (known : List Term) (m n : ℕ) (node : Node) (t u : Term) → StandsForNode slots known m node t → StandsForNode slots known n node u → t ≡ u
+node_term : (slots : Slots) (known : List Term) (m n : ℕ) (node : Node) (t u : Term) → IsTermOfNode slots known m node t → IsTermOfNode slots known n node u → t ≡ u
 node_term slots known m n (Of k) t u h j = h.1 ∙ sym j.1
 node_term slots known m n (Head s a) t u h j = h ∙ sym j
 node_term slots known m n (With p q) t u h j =
@@ -129,7 +129,7 @@ node_term slots known m n (With p q) t u h j =
     ∙ sym j.term_is
 
 module _ (slots : Slots) (nodes : List Node) (known : List Term) (are : AreNodes slots nodes known) where
-  same_node : (m n : ℕ) (a b : Node) (t : Term) → StandsForNode slots known m a t → StandsForNode slots known n b t → a ≡ b
+  same_node : (m n : ℕ) (a b : Node) (t : Term) → IsTermOfNode slots known m a t → IsTermOfNode slots known n b t → a ≡ b
   same_node m n (Of k) (Of l) t h j =
       let variables_same : variable_of slots k ≡ variable_of slots l = same_variables (variable_of slots k) (variable_of slots l) t h.1 j.1 in
       ap Of (sym (slot_again slots k) ∙ ap (slot_of slots) variables_same ∙ slot_again slots l)
@@ -152,17 +152,17 @@ module _ (slots : Slots) (nodes : List Node) (known : List Term) (are : AreNodes
       let lasts : q ≡ w = are.distinct q w h.last h.last_is (j.last_is ∙ ap Some (sym parts.1)) in
       ap (λ x. With x q) fronts ∙ ap (With v) lasts
 
-  pub known_of : (n : ℕ) (node : Node) → slice_get nodes n ≡ Some node → (t : Term) × (slice_get known n ≡ Some t) × StandsForNode slots known n node t
+  pub known_of : (n : ℕ) (node : Node) → slice_get nodes n ≡ Some node → (t : Term) × (slice_get known n ≡ Some t) × IsTermOfNode slots known n node t
   known_of n node e =
       let r = get_some known n (omega (arith, slice_get_within nodes n node e, are.long)) in
       (r.0, r.1, are.stands n node r.0 e r.1)
 
-  pub node_of : (n : ℕ) (t : Term) → slice_get known n ≡ Some t → (node : Node) × (slice_get nodes n ≡ Some node) × StandsForNode slots known n node t
+  pub node_of : (n : ℕ) (t : Term) → slice_get known n ≡ Some t → (node : Node) × (slice_get nodes n ≡ Some node) × IsTermOfNode slots known n node t
   node_of n t e =
       let r = get_some nodes n (omega (arith, slice_get_within known n t e, are.long)) in
       (r.0, r.1, are.stands n r.0 t r.1 e)
 
-  one_more : (node : Node) (t : Term) → (IsAmong nodes node → ⊥) → StandsForNode slots known (length nodes) node t → AreNodes slots (nodes ++ node ∷ []) (known ++ t ∷ [])
+  one_more : (node : Node) (t : Term) → (IsAmong nodes node → ⊥) → IsTermOfNode slots known (length nodes) node t → AreNodes slots (nodes ++ node ∷ []) (known ++ t ∷ [])
   one_more node t fresh means = record {
     long = length-append known (t ∷ []) ∙ omega (arith, are.long) ∙ sym (length-append nodes (node ∷ []));
     stands = λ n a u e k.
@@ -176,9 +176,9 @@ module _ (slots : Slots) (nodes : List Node) (known : List Term) (are : AreNodes
               elim (get_either known t n u k) [
                 | inl was ↦ absurd (omega (arith, new.0, are.long, slice_get_within known n u was))
                 | inr last ↦
-                    subst (λ i. StandsForNode slots (known ++ t ∷ []) i a u) (sym new.0)
-                    (subst (λ b. StandsForNode slots (known ++ t ∷ []) (length nodes) b u) (sym new.1)
-                    (subst (StandsForNode slots (known ++ t ∷ []) (length nodes) node) (sym last.1) (node_known slots known (t ∷ []) (length nodes) node t means)))
+                    subst (λ i. IsTermOfNode slots (known ++ t ∷ []) i a u) (sym new.0)
+                    (subst (λ b. IsTermOfNode slots (known ++ t ∷ []) (length nodes) b u) (sym new.1)
+                    (subst (IsTermOfNode slots (known ++ t ∷ []) (length nodes) node) (sym last.1) (node_known slots known (t ∷ []) (length nodes) node t means)))
               ]
         ];
     distinct = λ m n u e k.
@@ -199,10 +199,10 @@ module _ (slots : Slots) (nodes : List Node) (known : List Term) (are : AreNodes
       stranger : (m : ℕ) (u : Term) → slice_get known m ≡ Some u → u ≡ t → ⊥
       stranger m u e same =
           let r = node_of m u e in
-          fresh (subst (IsAmong nodes) (same_node m (length nodes) r.0 node u r.2 (subst (StandsForNode slots known (length nodes) node) (sym same) means)) (get_among nodes m r.0 r.1))
+          fresh (subst (IsAmong nodes) (same_node m (length nodes) r.0 node u r.2 (subst (IsTermOfNode slots known (length nodes) node) (sym same) means)) (get_among nodes m r.0 r.1))
 
   -- the node's number stands for its term
-  pub grows : (nodes' : List Node) (node : Node) (n : ℕ) (t : Term) → Interns nodes nodes' node n → StandsForNode slots known (length nodes) node t → (known' : List Term) × GrowsTo slots known nodes' known' × (slice_get known' n ≡ Some t)
+  pub grows : (nodes' : List Node) (node : Node) (n : ℕ) (t : Term) → Interns nodes nodes' node n → IsTermOfNode slots known (length nodes) node t → (known' : List Term) × GrowsTo slots known nodes' known' × (slice_get known' n ≡ Some t)
   grows nodes' node n t h means =
       elim h [
         | inl old ↦

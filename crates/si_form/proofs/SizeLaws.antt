@@ -8,7 +8,7 @@ use Rattle.si_unify.specs.declared.slots.Slots.{Slots}
 use Rattle.si_unify.specs.Solving.{slot_count}
 use Rattle.si_form.specs.declared.classes.Node.{Node}
 use Rattle.si_form.specs.declared.classes.Node.TheVariants.{Variable as Of, Head, With}
-use Rattle.si_form.specs.Classes.{with_last, StandsForNode, AreNodes}
+use Rattle.si_form.specs.Classes.{with_last, IsTermOfNode, AreNodes}
 use Rattle.si_form.specs.Folding.{leader, variable_or, folded, folded_all, AreLeaders, part_size, node_size, AreSizes}
 use Rattle.si_form.proofs.NodeLaws.{node_of}
 
@@ -33,7 +33,7 @@ module _ (slots : Slots) (f : Variable → Term) (nodes : List Node) (known : Li
       by (Some w) k = refl
       by None k = get_or_from_slice_get sizes q (terms.size (folded slots f u)) 0 (exact q u less at k)
 
-  node_exact : (bound m : ℕ) (node : Node) (t : Term) → IsExact bound → m ≤ bound → StandsForNode slots known m node t → Fits t → node_size sizes leaders node ≡ terms.size (folded slots f t)
+  node_exact : (bound m : ℕ) (node : Node) (t : Term) → IsExact bound → m ≤ bound → IsTermOfNode slots known m node t → Fits t → node_size sizes leaders node ≡ terms.size (folded slots f t)
   node_exact bound m (Of slot) t exact less means fits = sym (ap (λ u. terms.size (folded slots f u)) means.1)
   node_exact bound m (Head s a) t exact less means fits =
       (let one : 1 ≡ 1 + 0 = omega arith in one) ∙ sym (ap (λ u. terms.size (folded slots f u)) means)

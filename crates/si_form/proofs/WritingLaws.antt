@@ -13,7 +13,7 @@ use Rattle.si_flat.proofs.Subterms.{length-cells_of, length-cells_of_all}
 use Rattle.si_unify.specs.declared.slots.Slots.{Slots}
 use Rattle.si_unify.specs.Solving.{slot_count, variable_of}
 use Rattle.si_unify.proofs.Rows.{cells-join}
-use Rattle.si_form.specs.Folding.{leader, variable_or, folded, folded_all, HaveKnown, Folded, IsFolding, CanFold, HasFolded, HasSymbol, Descends, WritesCells, HasWritten, IsWriting}
+use Rattle.si_form.specs.Folding.{leader, variable_or, folded, folded_all, HaveKnown, Folded, IsFolding, CanFold, HasFolded, HasSymbol, UnfoldsClass, WritesCells, HasWritten, IsWriting}
 use Rattle.si_form.proofs.SizeLaws.{exact_sizes}
 use Rattle.si_form.proofs.RightSides.{led}
 
@@ -161,7 +161,7 @@ module _ (slots : Slots) (folding : Folded) (folds : IsFolding folding) (class :
             }
 
 -- ---- a symbol
-pub symbol_written : (folding : Folded) (left left' : List ℕ) (cells cells' : List Cell) (class a b size : ℕ) → Descends folding.nodes left left' class (a, b) → size ≡ get_or folding.sizes class 0 → cells' ≡ cells ++ cell.App a b size ∷ [] → WritesCells folding left left' cells cells' class
+pub symbol_written : (folding : Folded) (left left' : List ℕ) (cells cells' : List Cell) (class a b size : ℕ) → UnfoldsClass folding.nodes left left' class (a, b) → size ≡ get_or folding.sizes class 0 → cells' ≡ cells ++ cell.App a b size ∷ [] → WritesCells folding left left' cells cells' class
 symbol_written folding left left' cells cells' class a b size h size_is is slots known s ts rest are at have =
     let r = h slots known s ts rest are at have in (
       is

@@ -35,18 +35,18 @@ pub record HasOneMore (known : List Term) (front argument n : ℕ) (t : Term) : 
   pub front_before : front < n
   pub argument_before : argument < n
 
-abbrev pub StandsForNode : Slots → List Term → ℕ → Node → Term → Type 0
-StandsForNode slots known n (Of slot) t =
+abbrev pub IsTermOfNode : Slots → List Term → ℕ → Node → Term → Type 0
+IsTermOfNode slots known n (Of slot) t =
     (slot < slot_count slots) × (t ≡ terms.var (variable_of slots slot))
-StandsForNode slots known n (Head sym arity) t =
+IsTermOfNode slots known n (Head sym arity) t =
     t ≡ terms.app (record { number = sym; arity = arity }) terms.none
-StandsForNode slots known n (With front argument) t = HasOneMore known front argument n t
+IsTermOfNode slots known n (With front argument) t = HasOneMore known front argument n t
 
 -- each node stands for a term, and no two for the same
 pub record AreNodes (slots : Slots) (nodes : List Node) (known : List Term) : Type 0 where
   pub long : length known ≡ length nodes
   pub stands : (n : ℕ) (node : Node) (t : Term) → slice_get nodes n ≡ Some node
-      → slice_get known n ≡ Some t → StandsForNode slots known n node t
+      → slice_get known n ≡ Some t → IsTermOfNode slots known n node t
   pub distinct : (m n : ℕ) (t : Term) → slice_get known m ≡ Some t
       → slice_get known n ≡ Some t → m ≡ n
 

@@ -93,8 +93,8 @@ pub record HasSymbol (nodes : List Node) (class : ℕ) : Type 0 where
   pub class_is : slice_get known class ≡ Some (terms.app symbol arguments)
 
 -- the answer is the symbol of the class's term; its arguments stand before the others
-abbrev pub Descends : List Node → List ℕ → List ℕ → ℕ → ℕ × ℕ → Type 0
-Descends nodes left left' class answer =
+abbrev pub UnfoldsClass : List Node → List ℕ → List ℕ → ℕ → ℕ × ℕ → Type 0
+UnfoldsClass nodes left left' class answer =
     (slots : Slots) (known : List Term) (s : Symbol) (ts rest : Terms)
     → AreNodes slots nodes known
     → slice_get known class ≡ Some (terms.app s ts)
@@ -102,7 +102,7 @@ Descends nodes left left' class answer =
     → (answer ≡ (s.number, s.arity)) × HaveKnown known left' (join ts rest)
 
 -- so far the arguments after a front have been piled up
-pub record HasDescended (known : List Term) (left : List ℕ) (s : Symbol) (ts rest : Terms)
+pub record HasUnfolded (known : List Term) (left : List ℕ) (s : Symbol) (ts rest : Terms)
     (front : ℕ) : Type 0 where
   pub before : Terms
   pub behind : Terms
@@ -110,13 +110,13 @@ pub record HasDescended (known : List Term) (left : List ℕ) (s : Symbol) (ts r
   pub front_is : slice_get known front ≡ Some (terms.app s before)
   pub piled : HaveKnown known left (join behind rest)
 
-abbrev pub IsDescending : List Node → List ℕ → List ℕ → ℕ → ℕ → Type 0
-IsDescending nodes left left' class front =
+abbrev pub IsUnfolding : List Node → List ℕ → List ℕ → ℕ → ℕ → Type 0
+IsUnfolding nodes left left' class front =
     (slots : Slots) (known : List Term) (s : Symbol) (ts rest : Terms)
     → AreNodes slots nodes known
     → slice_get known class ≡ Some (terms.app s ts)
     → HaveKnown known left rest
-    → HasDescended known left' s ts rest front
+    → HasUnfolded known left' s ts rest front
 
 abbrev pub HasTerms : List Node → Type 0
 HasTerms nodes = (slots : Slots) × (known : List Term) × AreNodes slots nodes known
@@ -135,10 +135,10 @@ node_size sizes leaders (With front argument) =
     (slice_index_or sizes argument 0)) (2 ^ 32 - 1)
 
 -- the node's parts are among the first so many
-abbrev pub IsBefore : ℕ → Node → Type 0
-IsBefore n (Of slot) = Unit {0}
-IsBefore n (Head sym arity) = Unit {0}
-IsBefore n (With front argument) = (front < n) × (argument < n)
+abbrev pub HasEarlierParts : ℕ → Node → Type 0
+HasEarlierParts n (Of slot) = Unit {0}
+HasEarlierParts n (Head sym arity) = Unit {0}
+HasEarlierParts n (With front argument) = (front < n) × (argument < n)
 
 pub record AreSizes (nodes : List Node) (leaders : List (Option ℕ)) (k : ℕ)
     (sizes : List ℕ) : Type 0 where

@@ -10,7 +10,7 @@ use Rattle.si_io.specs.Counts.{raised, raised_by, fetch_counted}
 use Rattle.si_io.specs.Shown.{LibraryShown}
 use Rattle.si_io.proofs.Fetching.{HasFetchCause_once, same_files}
 use Rattle.si_harvest.specs.declared.reading.Reading.{Reading}
-use Rattle.si_harvest.specs.Opened.{opened, FetchesOnce}
+use Rattle.si_harvest.specs.Opened.{opened_names, FetchesOnce}
 use Rattle.si_harvest.specs.Stepping.{FetchesOn}
 
 one_call : (answer : Fetched) (before : LibraryCounts) → (fetch_counted answer before).calls ≡ raised before.calls
@@ -62,7 +62,7 @@ pub first_fetch : (bounds : Bounds) (file : Bytes) (old new : Reading) → old.f
 first_fetch bounds file old new none zero few once = record { most = few (omega (arith, zero)); none = λ never. by never once } where
   by : (MayAsk bounds [] 0 file → ⊥) → FetchesOnce bounds file old.files.items old.fetches new.fetches → new.fetches ≡ 0
   by never (inl same) = same ∙ zero
-  by never (inr (may, one_more)) = absurd (never (subst (λ n. MayAsk bounds [] n file) zero (subst (λ fs. MayAsk bounds (opened fs) old.fetches file) none may)))
+  by never (inr (may, one_more)) = absurd (never (subst (λ n. MayAsk bounds [] n file) zero (subst (λ fs. MayAsk bounds (opened_names fs) old.fetches file) none may)))
 
 -- and after others
 pub further_fetch : (bounds : Bounds) (file : Bytes) (made : ℕ) → MayAsk bounds [] 0 file → made ≤ bounds.fetches → MayFetch bounds file made

@@ -15,8 +15,8 @@ use Rattle.si_steps.proofs.FetchLaws.{fetches-append, barred_no_ask, made_barred
 use Rattle.si_harvest.specs.declared.files.OpenFile.{OpenFile}
 use Rattle.si_harvest.specs.declared.names.NameSet.{NameSet}
 use Rattle.si_harvest.specs.declared.reading.Reading.{Reading}
-use Rattle.si_harvest.specs.Opened.{opened, is_selected, OpensInside, IsUnopened, FetchesOnce, TriesClause, HasFault, HasFetched}
-use Rattle.si_harvest.specs.Underway.{Lists, Narrows, IsAtPoint, Stand, Finishes, IsUnderway}
+use Rattle.si_harvest.specs.Opened.{opened_names, is_selected, OpensInside, IsUnopened, FetchesOnce, TriesClause, HasFault, HasFetched}
+use Rattle.si_harvest.specs.Underway.{Lists, Narrows, IsAtPoint, Stand, Finishes, IsLoadUnderway}
 use Rattle.si_harvest.specs.Gains.{GainsByLoad}
 use Rattle.si_harvest.proofs.Stands.{moved, innermost, stand_names, stand_selected, stand_unselected, selected-reverse}
 use Rattle.si_harvest.proofs.Finishing.{finishes_end, finishes_over, finishes_accepted, finishes_opened, finishes_stuck, finishes_refused, finishes_barred, finishes_withheld, loads_opened}
@@ -46,20 +46,20 @@ stand_behind items f end outer s h others = subst (λ fs. Stand fs (behind f s e
 -- ---- a load that is under way
 module _ (told : Option Files) (bounds : Bounds) (rules : Rules) (start : List Clause) (file : Bytes) where
   Now : Reading → List Clause → Type 0
-  Now reading state = IsUnderway told bounds rules start file reading state
+  Now reading state = IsLoadUnderway told bounds rules start file reading state
 
   -- the innermost file of a load that is under way
   pub now_front : (old : Reading) (state : List Clause) (items : List OpenFile) (f : OpenFile) → old.files.items ≡ items ++ f ∷ []
-      → (u : IsUnderway told bounds rules start file old state) → Front f (reverse items) u.points
+      → (u : IsLoadUnderway told bounds rules start file old state) → Front f (reverse items) u.points
   now_front old state items f e u =
       front f (reverse items) u.points (subst (λ fs. Stand fs u.points) (ap (λ l. reverse l) e ∙ innermost items f) u.stand)
 
   -- The load goes on after these events.
-  pub goes_on : (old new : Reading) (state state' : List Clause) (gained : List Event) (points : List ReadingPoint) (u : IsUnderway told bounds rules start file old state)
+  pub goes_on : (old new : Reading) (state state' : List Clause) (gained : List Event) (points : List ReadingPoint) (u : IsLoadUnderway told bounds rules start file old state)
       → Stand (reverse new.files.items) points → state' ≡ state ++ tried gained → new.fetches ≡ old.fetches + fetches gained → HasFetched told bounds rules start file new.fetches
       → ((files : Files) → told ≡ Some files → (es : List Event) (fault : Option Fault) → Finishes files bounds rules points new.fetches state' es fault
       → Finishes files bounds rules u.points old.fetches state (gained ++ es) fault)
-      → IsUnderway told bounds rules start file new state'
+      → IsLoadUnderway told bounds rules start file new state'
   goes_on old new state state' gained points u stand whole made fetched finishes = record {
     points = points;
     stand = stand;
@@ -72,11 +72,11 @@ module _ (told : Option Files) (bounds : Bounds) (rules : Rules) (start : List C
   }
 
   -- with no fetch more
-  pub still_fetched : (old : Reading) (state : List Clause) (made : ℕ) → made ≡ old.fetches → IsUnderway told bounds rules start file old state → HasFetched told bounds rules start file made
+  pub still_fetched : (old : Reading) (state : List Clause) (made : ℕ) → made ≡ old.fetches → IsLoadUnderway told bounds rules start file old state → HasFetched told bounds rules start file made
   still_fetched old state made same u = subst (λ n. HasFetched told bounds rules start file n) (sym same) u.fetched
 
   -- or it ends with a fault
-  pub has_fault : (old : Reading) (state : List Clause) (gained : List Event) (made : ℕ) (fault : Fault) (u : IsUnderway told bounds rules start file old state) → old.fetches ≤ made
+  pub has_fault : (old : Reading) (state : List Clause) (gained : List Event) (made : ℕ) (fault : Fault) (u : IsLoadUnderway told bounds rules start file old state) → old.fetches ≤ made
       → ((files : Files) → told ≡ Some files
       → Finishes files bounds rules u.points old.fetches state gained (Some fault) × (made ≡ fetches_made (u.events ++ gained) (Some fault)))
       → HasFault told bounds rules start file made fault
@@ -87,7 +87,7 @@ module _ (told : Option Files) (bounds : Bounds) (rules : Rules) (start : List C
 
   -- the file is at its end
   pub at_end : (old new : Reading) (state : List Clause) (items : List OpenFile) (f : OpenFile) → old.files.items ≡ items ++ f ∷ [] → AreBlanks (drop f.at f.bytes.items)
-      → new.files.items ≡ items → new.fetches ≡ old.fetches → IsUnderway told bounds rules start file old state → IsUnderway told bounds rules start file new state
+      → new.files.items ≡ items → new.fetches ≡ old.fetches → IsLoadUnderway told bounds rules start file old state → IsLoadUnderway told bounds rules start file new state
   at_end old new state items f e b same made u =
       let w = now_front old state items f e u in
       goes_on old new state state [] w.outer u (subst (λ fs. Stand (reverse fs) w.outer) (sym same) w.others) (sym (append-nil state)) (omega (arith, made)) (still_fetched old state new.fetches made u)
@@ -99,7 +99,7 @@ module _ (told : Option Files) (bounds : Bounds) (rules : Rules) (start : List C
   pub takes : (old new : Reading) (state state' : List Clause) (items : List OpenFile) (f : OpenFile) (end : ℕ) (clause : Clause) → old.files.items ≡ items ++ f ∷ []
       → BeginsWithItem (drop f.at f.bytes.items) (clause_item clause) (drop end f.bytes.items)
       → new.files.items ≡ moved items f end → new.fetches ≡ old.fetches → TriesClause rules new.files.items clause state state'
-      → IsUnderway told bounds rules start file old state → IsUnderway told bounds rules start file new state'
+      → IsLoadUnderway told bounds rules start file old state → IsLoadUnderway told bounds rules start file new state'
   takes old new state state' items f end clause e b same made t u = by t where
     w : Front f (reverse items) u.points
     w = now_front old state items f e u
@@ -114,7 +114,7 @@ module _ (told : Option Files) (bounds : Bounds) (rules : Rules) (start : List C
     item = subst (λ l. BeginsWithItem l (clause_item clause) (drop end f.bytes.items)) (sym w.own.left) b
 
     by : ((is_selected new.files.items clause.name ≡ false) × (state' ≡ state)) ⊎ ((is_selected new.files.items clause.name ≡ true) × Accepts rules state clause state')
-        → IsUnderway told bounds rules start file new state'
+        → IsLoadUnderway told bounds rules start file new state'
     by (inl (no_one, stays)) =
         let unselected : IsSelected w.point.around clause.name → ⊥ = stand_unselected (reverse new.files.items) (next ∷ w.outer) clause.name stands (selected-reverse new.files.items clause.name ∙ no_one) in
         goes_on old new state state' [] (next ∷ w.outer) u stands (stays ∙ sym (append-nil state)) (omega (arith, made)) (still_fetched old state new.fetches made u)
@@ -133,7 +133,7 @@ module _ (told : Option Files) (bounds : Bounds) (rules : Rules) (start : List C
   pub is_refused : (old : Reading) (state : List Clause) (items : List OpenFile) (f : OpenFile) (end : ℕ) (clause : Clause) (made : ℕ) (fault : Fault) → old.files.items ≡ items ++ f ∷ []
       → BeginsWithItem (drop f.at f.bytes.items) (clause_item clause) (drop end f.bytes.items)
       → is_selected (moved items f end) clause.name ≡ true → IsRejected rules state clause fault → made ≡ old.fetches
-      → IsUnderway told bounds rules start file old state → HasFault told bounds rules start file made fault
+      → IsLoadUnderway told bounds rules start file old state → HasFault told bounds rules start file made fault
   is_refused old state items f end clause made fault e b each r same_made u = by fault r where
     w : Front f (reverse items) u.points
     w = now_front old state items f e u
@@ -170,7 +170,7 @@ module _ (told : Option Files) (bounds : Bounds) (rules : Rules) (start : List C
 
   -- no item stands there
   pub is_stuck : (old : Reading) (state : List Clause) (items : List OpenFile) (f : OpenFile) (fault : Fault) → old.files.items ≡ items ++ f ∷ []
-      → ((s : ReadingPoint) (outer : List ReadingPoint) → IsAtPoint f outer s → IsStuck s fault) → IsUnderway told bounds rules start file old state → HasFault told bounds rules start file old.fetches fault
+      → ((s : ReadingPoint) (outer : List ReadingPoint) → IsAtPoint f outer s → IsStuck s fault) → IsLoadUnderway told bounds rules start file old state → HasFault told bounds rules start file old.fetches fault
   is_stuck old state items f fault e h u =
       let w = now_front old state items f e u in
       has_fault old state [] old.fetches fault u (omega arith)
@@ -185,7 +185,7 @@ module _ (told : Option Files) (bounds : Bounds) (rules : Rules) (start : List C
   pub is_unopened : (old : Reading) (state : List Clause) (items : List OpenFile) (f : OpenFile) (end : ℕ) (name : Bytes) (selection : Selection) (count : ℕ) (fault : Fault)
       → old.files.items ≡ items ++ f ∷ [] → BeginsWithItem (drop f.at f.bytes.items) (include_item name selection) (drop end f.bytes.items)
       → IsUnopened told bounds name (moved items f end) old.fetches count fault
-      → IsUnderway told bounds rules start file old state → HasFault told bounds rules start file count fault
+      → IsLoadUnderway told bounds rules start file old state → HasFault told bounds rules start file count fault
   is_unopened old state items f end name selection count fault e b h u =
       has_fault old state (ask name ∷ []) count fault u (later h)
       (λ files t. (subst (λ ss. Finishes files bounds rules ss old.fetches state (ask name ∷ []) (Some fault)) (sym w.first) (by files t h), counted files t h)) where
@@ -195,7 +195,7 @@ module _ (told : Option Files) (bounds : Bounds) (rules : Rules) (start : List C
 
         counted : (files : Files) → told ≡ Some files → IsUnopened told bounds name (moved items f end) old.fetches count fault → count ≡ fetches_made (u.events ++ ask name ∷ []) (Some fault)
         counted files t (inl (no_one, same_count)) =
-            same_count ∙ u.asked ∙ made_barred bounds (opened (moved items f end)) old.fetches name fault u.events no_one
+            same_count ∙ u.asked ∙ made_barred bounds (opened_names (moved items f end)) old.fetches name fault u.events no_one
         counted files t (inr (may, no_file, one_more)) =
             one_more ∙ ap (λ n. n + 1) u.asked ∙ made_withheld files bounds name fault u.events (subst (λ x. IfSome x (λ fs. IsWithheld fs bounds name fault)) t no_file)
 
@@ -208,7 +208,7 @@ module _ (told : Option Files) (bounds : Bounds) (rules : Rules) (start : List C
         stands : Stand (reverse (moved items f end)) (next ∷ w.outer)
         stands = stand_behind items f end w.outer w.point w.own w.others
 
-        names : opened (moved items f end) ≡ w.point.opened
+        names : opened_names (moved items f end) ≡ w.point.opened
         names = sym (stand_names (reverse (moved items f end)) (next ∷ w.outer) stands)
 
         item : BeginsWithItem w.point.rest (include_item name selection) (drop end f.bytes.items)
@@ -225,7 +225,7 @@ module _ (told : Option Files) (bounds : Bounds) (rules : Rules) (start : List C
             (subst (λ x. IfSome x (λ fs. IsWithheld fs bounds name fault)) t no_file)
 
   -- a fetch that is made may be one at which the library fails
-  pub may_fail : (name : Bytes) (outer : List OpenFile) (before made : ℕ) → MayAsk bounds (opened outer) before name → made ≡ before + 1 → IsUnopened told bounds name outer before made (failed name)
+  pub may_fail : (name : Bytes) (outer : List OpenFile) (before made : ℕ) → MayAsk bounds (opened_names outer) before name → made ≡ before + 1 → IsUnopened told bounds name outer before made (failed name)
   may_fail name outer before made may one_more = inr (may, any told, one_more) where
     any : (t : Option Files) → IfSome t (λ files. IsWithheld files bounds name (failed name))
     any None = tt
@@ -234,7 +234,7 @@ module _ (told : Option Files) (bounds : Bounds) (rules : Rules) (start : List C
   -- so the fetches so far are the first ones of the load
   pub once_fetched : (old : Reading) (state : List Clause) (items : List OpenFile) (f : OpenFile) (end : ℕ) (name : Bytes) (selection : Selection) (made : ℕ)
       → old.files.items ≡ items ++ f ∷ [] → BeginsWithItem (drop f.at f.bytes.items) (include_item name selection) (drop end f.bytes.items)
-      → FetchesOnce bounds name (moved items f end) old.fetches made → IsUnderway told bounds rules start file old state → HasFetched told bounds rules start file made
+      → FetchesOnce bounds name (moved items f end) old.fetches made → IsLoadUnderway told bounds rules start file old state → HasFetched told bounds rules start file made
   once_fetched old state items f end name selection made e b (inl same) u = still_fetched old state made same u
   once_fetched old state items f end name selection made e b (inr (may, one_more)) u =
       (name, is_unopened old state items f end name selection made (failed name) e b (may_fail name (moved items f end) old.fetches made may one_more) u)
@@ -249,7 +249,7 @@ module _ (told : Option Files) (bounds : Bounds) (rules : Rules) (start : List C
   pub enters : (old new : Reading) (state : List Clause) (items : List OpenFile) (f : OpenFile) (end : ℕ) (name : Bytes) (selection : Selection)
       → old.files.items ≡ items ++ f ∷ [] → BeginsWithItem (drop f.at f.bytes.items) (include_item name selection) (drop end f.bytes.items)
       → OpensInside told bounds name (Lists selection) (moved items f end) old.fetches new
-      → IsUnderway told bounds rules start file old state → IsUnderway told bounds rules start file new state
+      → IsLoadUnderway told bounds rules start file old state → IsLoadUnderway told bounds rules start file new state
   enters old new state items f end name selection e b h u = by told refl where
     w : Front f (reverse items) u.points
     w = now_front old state items f e u
@@ -260,7 +260,7 @@ module _ (told : Option Files) (bounds : Bounds) (rules : Rules) (start : List C
     stands : Stand (reverse (moved items f end)) (next ∷ w.outer)
     stands = stand_behind items f end w.outer w.point w.own w.others
 
-    names : w.point.opened ≡ opened (moved items f end)
+    names : w.point.opened ≡ opened_names (moved items f end)
     names = stand_names (reverse (moved items f end)) (next ∷ w.outer) stands
 
     item : BeginsWithItem w.point.rest (include_item name selection) (drop end f.bytes.items)
@@ -284,7 +284,7 @@ module _ (told : Option Files) (bounds : Bounds) (rules : Rules) (start : List C
     may : MayAsk bounds w.point.opened old.fetches name
     may = subst (λ l. MayAsk bounds l old.fetches name) (sym names) h.may
 
-    by : (t : Option Files) → told ≡ t → IsUnderway told bounds rules start file new state
+    by : (t : Option Files) → told ≡ t → IsLoadUnderway told bounds rules start file new state
     by t same_told =
         goes_on old new state state (ask name ∷ []) (inner ∷ next ∷ w.outer) u all_stand (sym (append-nil state)) (omega (arith, h.counted))
         (once_fetched old state items f end name selection new.fetches e b (inr (h.may, h.counted)) u)
@@ -297,12 +297,12 @@ module _ (told : Option Files) (bounds : Bounds) (rules : Rules) (start : List C
 
   -- ---- the first file
   pub may_begin : (old new : Reading) → old.files.items ≡ [] → old.fetches ≡ 0 → OpensInside told bounds file (λ names. names ≡ None) old.files.items old.fetches new → MayAsk bounds [] 0 file
-  may_begin old new none zero h = subst (λ n. MayAsk bounds [] n file) zero (subst (λ l. MayAsk bounds (opened l) old.fetches file) none h.may)
+  may_begin old new none zero h = subst (λ n. MayAsk bounds [] n file) zero (subst (λ l. MayAsk bounds (opened_names l) old.fetches file) none h.may)
 
   pub never_begins : (old : Reading) (made : ℕ) (fault : Fault) → old.files.items ≡ [] → old.fetches ≡ 0 → IsUnopened told bounds file old.files.items old.fetches made fault → HasFault told bounds rules start file made fault
   never_begins old made fault none zero h = (some h, by told refl h) where
-    not_asked : IsBarred bounds (opened old.files.items) old.fetches file fault → IsBarred bounds [] 0 file fault
-    not_asked no_one = subst (λ n. IsBarred bounds [] n file fault) zero (subst (λ l. IsBarred bounds (opened l) old.fetches file fault) none no_one)
+    not_asked : IsBarred bounds (opened_names old.files.items) old.fetches file fault → IsBarred bounds [] 0 file fault
+    not_asked no_one = subst (λ n. IsBarred bounds [] n file fault) zero (subst (λ l. IsBarred bounds (opened_names l) old.fetches file fault) none no_one)
 
     some : IsUnopened told bounds file old.files.items old.fetches made fault → MayAsk bounds [] 0 file → 1 ≤ made
     some (inl (no_one, same)) may = absurd (barred_no_ask bounds [] 0 file fault (not_asked no_one) may)
@@ -316,7 +316,7 @@ module _ (told : Option Files) (bounds : Bounds) (rules : Rules) (start : List C
     by (Some files) e (inr (may, no_file, one_more)) =
         let gone = subst (λ x. IfSome x (λ fs. IsWithheld fs bounds file fault)) e no_file in (
           ask file ∷ [],
-          withheld [] [] 0 start file fault (subst (λ n. MayAsk bounds [] n file) zero (subst (λ l. MayAsk bounds (opened l) old.fetches file) none may)) gone,
+          withheld [] [] 0 start file fault (subst (λ n. MayAsk bounds [] n file) zero (subst (λ l. MayAsk bounds (opened_names l) old.fetches file) none may)) gone,
           one_more ∙ ap (λ n. n + 1) zero ∙ made_withheld files bounds file fault [] gone,
         )
 
@@ -324,7 +324,7 @@ module _ (told : Option Files) (bounds : Bounds) (rules : Rules) (start : List C
   first_fetched old made none zero (inl same) = inl (same ∙ zero)
   first_fetched old made none zero (inr (may, one_more)) = inr (file, never_begins old made (failed file) none zero (may_fail file old.files.items old.fetches made may one_more))
 
-  pub begins : (old new : Reading) → old.files.items ≡ [] → old.fetches ≡ 0 → OpensInside told bounds file (λ names. names ≡ None) old.files.items old.fetches new → IsUnderway told bounds rules start file new start
+  pub begins : (old new : Reading) → old.files.items ≡ [] → old.fetches ≡ 0 → OpensInside told bounds file (λ names. names ≡ None) old.files.items old.fetches new → IsLoadUnderway told bounds rules start file new start
   begins old new none zero h = record {
     points = inner ∷ [];
     stand = subst (λ fs. Stand fs (inner ∷ [])) (sym (ap (λ l. reverse l) (h.inside ∙ ap (λ l. l ++ h.file ∷ []) none))) (own, tt);
@@ -353,11 +353,11 @@ module _ (told : Option Files) (bounds : Bounds) (rules : Rules) (start : List C
       → IsBarred bounds [] 0 file fault
   may_not_begin old made fault none zero never h = by h where
     by : IsUnopened told bounds file old.files.items old.fetches made fault → IsBarred bounds [] 0 file fault
-    by (inl (no_one, same)) = subst (λ n. IsBarred bounds [] n file fault) zero (subst (λ l. IsBarred bounds (opened l) old.fetches file fault) none no_one)
-    by (inr (may, no_file, one_more)) = absurd (never (subst (λ n. MayAsk bounds [] n file) zero (subst (λ l. MayAsk bounds (opened l) old.fetches file) none may)))
+    by (inl (no_one, same)) = subst (λ n. IsBarred bounds [] n file fault) zero (subst (λ l. IsBarred bounds (opened_names l) old.fetches file fault) none no_one)
+    by (inr (may, no_file, one_more)) = absurd (never (subst (λ n. MayAsk bounds [] n file) zero (subst (λ l. MayAsk bounds (opened_names l) old.fetches file) none may)))
 
   -- no file is open any more
-  pub is_over : (old : Reading) (state : List Clause) → old.files.items ≡ [] → IsUnderway told bounds rules start file old state
+  pub is_over : (old : Reading) (state : List Clause) → old.files.items ≡ [] → IsLoadUnderway told bounds rules start file old state
       → GainsByLoad told bounds rules start file old.fetches state
   is_over old state none u = (u.begun, by told refl) where
     no_points : (ss : List ReadingPoint) → Stand [] ss → ss ≡ []

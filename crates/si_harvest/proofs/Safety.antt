@@ -9,37 +9,37 @@ use Rattle.si_harvest.specs.declared.files.OpenFile.{OpenFile}
 use Rattle.si_harvest.specs.declared.names.NameSet.{NameSet}
 use Rattle.si_harvest.specs.declared.reading.Reading.{Reading}
 use Rattle.si_harvest.specs.Opened.{OpensInside}
-use Rattle.si_harvest.specs.Underway.{IsWithin, AreWithin, left_of, steps_left}
+use Rattle.si_harvest.specs.Underway.{IsFileWithin, AreFilesWithin, left_to_read, steps_left}
 use Rattle.si_harvest.proofs.Stands.{moved}
 use Rattle.si_harvest.proofs.Shorter.{item_shorter}
 
 -- ---- places
-pub within_others : (items : List OpenFile) (f : OpenFile) → AreWithin (items ++ f ∷ []) → AreWithin items
+pub within_others : (items : List OpenFile) (f : OpenFile) → AreFilesWithin (items ++ f ∷ []) → AreFilesWithin items
 within_others [] f h = tt
 within_others (x ∷ xs) f h = (h.0, within_others xs f h.1)
 
-pub within_last : (items : List OpenFile) (f : OpenFile) → AreWithin (items ++ f ∷ []) → IsWithin f
+pub within_last : (items : List OpenFile) (f : OpenFile) → AreFilesWithin (items ++ f ∷ []) → IsFileWithin f
 within_last [] f h = h.0
 within_last (x ∷ xs) f h = within_last xs f h.1
 
-pub within_more : (items : List OpenFile) (f : OpenFile) → AreWithin items → IsWithin f → AreWithin (items ++ f ∷ [])
+pub within_more : (items : List OpenFile) (f : OpenFile) → AreFilesWithin items → IsFileWithin f → AreFilesWithin (items ++ f ∷ [])
 within_more [] f h w = (w, tt)
 within_more (x ∷ xs) f h w = (h.0, within_more xs f h.1 w)
 
 -- the file is read on
-pub within_moved : (items : List OpenFile) (f : OpenFile) (end : ℕ) → AreWithin (items ++ f ∷ []) → end ≤ length f.bytes.items → AreWithin (moved items f end)
+pub within_moved : (items : List OpenFile) (f : OpenFile) (end : ℕ) → AreFilesWithin (items ++ f ∷ []) → end ≤ length f.bytes.items → AreFilesWithin (moved items f end)
 within_moved items f end h e =
     within_more items (record f { at = end }) (within_others items f h) (record { place = e; size = (within_last items f h).size })
 
 -- another file is open inside
 pub within_entered : (told : Option Files) (bounds : Bounds) (name : Bytes) (AreListed : Option NameSet → Type 0) (outer : List OpenFile) (made : ℕ) (new : Reading) → bounds.file ≤ MOST_OCCURRENCES
-    → OpensInside told bounds name AreListed outer made new → AreWithin outer → AreWithin new.files.items
+    → OpensInside told bounds name AreListed outer made new → AreFilesWithin outer → AreFilesWithin new.files.items
 within_entered told bounds name AreListed outer made new b h w =
-    subst AreWithin (sym h.inside)
+    subst AreFilesWithin (sym h.inside)
     (within_more outer h.file w (record { place = omega (arith, h.given.front); size = omega (arith, h.given.small, b) }))
 
 -- ---- steps
-left-append : (items : List OpenFile) (f : OpenFile) → left_of (items ++ f ∷ []) ≡ left_of items + ((length f.bytes.items - f.at) + 1)
+left-append : (items : List OpenFile) (f : OpenFile) → left_to_read (items ++ f ∷ []) ≡ left_to_read items + ((length f.bytes.items - f.at) + 1)
 left-append [] f = omega arith
 left-append (x ∷ xs) f = omega (arith, left-append xs f)
 
@@ -48,8 +48,8 @@ pub falls_end : (bounds : Bounds) (old new : Reading) (items : List OpenFile) (f
 falls_end bounds old new items f e n m =
     omega (
       arith,
-      ap left_of e,
-      ap left_of n,
+      ap left_to_read e,
+      ap left_to_read n,
       left-append items f,
       ap (λ k. (bounds.fetches - k) * (bounds.file + 2)) m,
     )
@@ -63,8 +63,8 @@ pub falls_item : (bounds : Bounds) (old new : Reading) (items : List OpenFile) (
 falls_item bounds old new items f item end e b n m =
     omega (
       arith,
-      ap left_of e,
-      ap left_of n,
+      ap left_to_read e,
+      ap left_to_read n,
       left-append items f,
       left-append items (record f { at = end }),
       later f item end b,
@@ -80,8 +80,8 @@ pub falls_entered : (told : Option Files) (bounds : Bounds) (name : Bytes) (AreL
 falls_entered told bounds name AreListed old new items f item end e b h =
     omega (
       arith,
-      ap left_of e,
-      ap left_of h.inside,
+      ap left_to_read e,
+      ap left_to_read h.inside,
       left-append items f,
       left-append items (record f { at = end }),
       left-append (moved items f end) h.file,

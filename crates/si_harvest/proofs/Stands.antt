@@ -11,7 +11,7 @@ use Rattle.si_defs.proofs.SymbolLaws.{text_is}
 use Rattle.si_state.specs.Harvest.{ReadingPoint, IsSelected}
 use Rattle.si_harvest.specs.declared.files.OpenFile.{OpenFile}
 use Rattle.si_harvest.specs.declared.names.NameSet.{NameSet}
-use Rattle.si_harvest.specs.Opened.{file_names, opened, has_open, lists, is_selected}
+use Rattle.si_harvest.specs.Opened.{file_names, opened_names, has_open, lists, is_selected}
 use Rattle.si_harvest.specs.Underway.{opened_at, around_at, Narrows, Stand}
 use Rattle.si_harvest.proofs.AnyLaws.{any_last}
 
@@ -108,11 +108,11 @@ unlisted_among (f ∷ fs) name h a = by (bytes_eq f.name name) refl h a (unliste
   by false q g (inl e) k = false≢true (sym q ∙ (bytes_eq-Decides f.name name).1 e)
   by false q g (inr m) k = k g m
 
-pub is_open : (fs : List OpenFile) (name : Bytes) → has_open fs name ≡ true → IsAmong (opened fs) name
+pub is_open : (fs : List OpenFile) (name : Bytes) → has_open fs name ≡ true → IsAmong (opened_names fs) name
 is_open fs name h = listed_among (reverse fs) name (listed-reverse fs name ∙ h)
 
-pub is_closed : (fs : List OpenFile) (name : Bytes) → has_open fs name ≡ false → IsAmong (opened fs) name → ⊥
+pub is_closed : (fs : List OpenFile) (name : Bytes) → has_open fs name ≡ false → IsAmong (opened_names fs) name → ⊥
 is_closed fs name h a = unlisted_among (reverse fs) name (listed-reverse fs name ∙ h) a
 
-pub opened_count : (fs : List OpenFile) → length (opened fs) ≡ length fs
+pub opened_count : (fs : List OpenFile) → length (opened_names fs) ≡ length fs
 opened_count fs = length-map (reverse fs) (λ f. f.name) ∙ length-reverse fs

@@ -18,7 +18,7 @@ use Rattle.si_harvest.specs.declared.faults.HarvestFault.{HarvestFault}
 use Rattle.si_harvest.specs.declared.faults.HarvestFault.TheVariants.{Memory, Syntax, Language}
 use Rattle.si_harvest.specs.Faults.{NamesWhy}
 use Rattle.si_harvest.specs.Opened.{is_selected, OpensInside, IsUnopened, FetchesOnce, TriesClause, HasFault, HasFetched}
-use Rattle.si_harvest.specs.Underway.{IsAtPoint, IsUnderway, AreWithin, Lists}
+use Rattle.si_harvest.specs.Underway.{IsAtPoint, IsLoadUnderway, AreFilesWithin, Lists}
 use Rattle.si_harvest.specs.Stepping.{StepsOn, StepsReading}
 use Rattle.si_harvest.proofs.Errors.{why_weaker}
 use Rattle.si_harvest.proofs.Moves.{at_end, takes, is_refused, is_stuck, enters, is_unopened, still_fetched, once_fetched}
@@ -32,7 +32,7 @@ read_as bytes bytes' at r r' b e h = subst (IsRead bytes' at) e (subst (λ l. Is
 module _ (told : Option Files) (bounds : Bounds) (rules : Rules) where
   -- an error that is passed on
   pub steps_fault : (r : Result Bool HarvestFault) (e : HarvestFault) (old new : Reading) (before after : List Clause) → IsErrAnd r (λ x. x ≡ e)
-      → ((start : List Clause) (file : Bytes) → IsUnderway told bounds rules start file old before
+      → ((start : List Clause) (file : Bytes) → IsLoadUnderway told bounds rules start file old before
       → NamesWhy rules e (HasFault told bounds rules start file new.fetches) × HasFetched told bounds rules start file new.fetches)
       → StepsReading told bounds rules old new before after r
   steps_fault (Ok x) e old new before after h f = absurd h
@@ -43,26 +43,26 @@ module _ (told : Option Files) (bounds : Bounds) (rules : Rules) where
   steps_memory r old new before after h same = steps_fault r Memory old new before after h (λ start file u. (inl refl, still_fetched told bounds rules start file old before new.fetches same u))
 
   pub step_end : (old new : Reading) (state : List Clause) (items : List OpenFile) (f : OpenFile) → old.files.items ≡ items ++ f ∷ [] → AreBlanks (drop f.at f.bytes.items)
-      → new.files.items ≡ items → new.fetches ≡ old.fetches → AreWithin old.files.items → StepsOn told bounds rules old new state state
+      → new.files.items ≡ items → new.fetches ≡ old.fetches → AreFilesWithin old.files.items → StepsOn told bounds rules old new state state
   step_end old new state items f e b n m w = record {
     underway = λ start file u. at_end told bounds rules start file old new state items f e b n m u;
-    within = subst AreWithin (sym n) (within_others items f (subst AreWithin e w));
+    within = subst AreFilesWithin (sym n) (within_others items f (subst AreFilesWithin e w));
     falls = falls_end bounds old new items f e n m;
   }
 
   pub step_clause : (old new : Reading) (state state' : List Clause) (items : List OpenFile) (f : OpenFile) (end : ℕ) (clause : Clause) → old.files.items ≡ items ++ f ∷ []
       → IsItemRead f.bytes.items f.at (clause_item clause) end → new.files.items ≡ moved items f end → new.fetches ≡ old.fetches
-      → TriesClause rules new.files.items clause state state' → AreWithin old.files.items → StepsOn told bounds rules old new state state'
+      → TriesClause rules new.files.items clause state state' → AreFilesWithin old.files.items → StepsOn told bounds rules old new state state'
   step_clause old new state state' items f end clause e r n m t w = record {
     underway = λ start file u. takes told bounds rules start file old new state state' items f end clause e r.begins n m t u;
-    within = subst AreWithin (sym n) (within_moved items f end (subst AreWithin e w) r.within);
+    within = subst AreFilesWithin (sym n) (within_moved items f end (subst AreFilesWithin e w) r.within);
     falls = falls_item bounds old new items f (clause_item clause) end e r.begins n m;
   }
 
   pub step_refused : (old : Reading) (state : List Clause) (items : List OpenFile) (f : OpenFile) (end : ℕ) (clause : Clause) (made : ℕ) (x : HarvestFault) → old.files.items ≡ items ++ f ∷ []
       → IsItemRead f.bytes.items f.at (clause_item clause) end
       → NamesWhy rules x (λ fault. (is_selected (moved items f end) clause.name ≡ true) × IsRejected rules state clause fault) → made ≡ old.fetches
-      → (start : List Clause) (file : Bytes) → IsUnderway told bounds rules start file old state
+      → (start : List Clause) (file : Bytes) → IsLoadUnderway told bounds rules start file old state
       → NamesWhy rules x (HasFault told bounds rules start file made) × HasFetched told bounds rules start file made
   step_refused old state items f end clause made x e r b same start file u = (
     why_weaker rules x _ _ (λ fault h. is_refused told bounds rules start file old state items f end clause made fault e r.begins h.0 h.1 same u) b,
@@ -72,17 +72,17 @@ module _ (told : Option Files) (bounds : Bounds) (rules : Rules) where
   pub step_include : (old new : Reading) (state : List Clause) (items : List OpenFile) (f : OpenFile) (end : ℕ) (name : Bytes) (selection : Selection)
       → old.files.items ≡ items ++ f ∷ [] → IsItemRead f.bytes.items f.at (include_item name selection) end
       → OpensInside told bounds name (Lists selection) (moved items f end) old.fetches new
-      → bounds.file ≤ MOST_OCCURRENCES → AreWithin old.files.items → StepsOn told bounds rules old new state state
+      → bounds.file ≤ MOST_OCCURRENCES → AreFilesWithin old.files.items → StepsOn told bounds rules old new state state
   step_include old new state items f end name selection e r h b w = record {
     underway = λ start file u. enters told bounds rules start file old new state items f end name selection e r.begins h u;
-    within = within_entered told bounds name (Lists selection) (moved items f end) old.fetches new b h (within_moved items f end (subst AreWithin e w) r.within);
+    within = within_entered told bounds name (Lists selection) (moved items f end) old.fetches new b h (within_moved items f end (subst AreFilesWithin e w) r.within);
     falls = falls_entered told bounds name (Lists selection) old new items f (include_item name selection) end e r.begins h;
   }
 
   pub step_unopened : (old : Reading) (state : List Clause) (items : List OpenFile) (f : OpenFile) (end : ℕ) (name : Bytes) (selection : Selection) (made : ℕ) (x : HarvestFault)
       → old.files.items ≡ items ++ f ∷ [] → IsItemRead f.bytes.items f.at (include_item name selection) end
       → NamesWhy rules x (IsUnopened told bounds name (moved items f end) old.fetches made) → FetchesOnce bounds name (moved items f end) old.fetches made
-      → (start : List Clause) (file : Bytes) → IsUnderway told bounds rules start file old state
+      → (start : List Clause) (file : Bytes) → IsLoadUnderway told bounds rules start file old state
       → NamesWhy rules x (HasFault told bounds rules start file made) × HasFetched told bounds rules start file made
   step_unopened old state items f end name selection made x e r b once start file u = (
     why_weaker rules x _ _ (λ fault h. is_unopened told bounds rules start file old state items f end name selection made fault e r.begins h u) b,
@@ -107,7 +107,7 @@ module _ (told : Option Files) (bounds : Bounds) (rules : Rules) where
 
   pub step_foreign : (old : Reading) (state : List Clause) (items : List OpenFile) (f : OpenFile) (place line : ℕ) → old.files.items ≡ items ++ f ∷ []
       → IsFault f.bytes.items f.at place × IsForeign (drop f.at f.bytes.items) → line ≡ line_of (take place f.bytes.items)
-      → (start : List Clause) (file : Bytes) → IsUnderway told bounds rules start file old state
+      → (start : List Clause) (file : Bytes) → IsLoadUnderway told bounds rules start file old state
       → NamesWhy rules (Language f.name line) (HasFault told bounds rules start file old.fetches) × HasFetched told bounds rules start file old.fetches
   step_foreign old state items f place line e r l start file u = (
     inr (record {
@@ -121,7 +121,7 @@ module _ (told : Option Files) (bounds : Bounds) (rules : Rules) where
 
   pub step_malformed : (old : Reading) (state : List Clause) (items : List OpenFile) (f : OpenFile) (place line : ℕ) → old.files.items ≡ items ++ f ∷ []
       → IsFault f.bytes.items f.at place × (IsForeign (drop f.at f.bytes.items) → ⊥) → line ≡ line_of (take place f.bytes.items)
-      → (start : List Clause) (file : Bytes) → IsUnderway told bounds rules start file old state
+      → (start : List Clause) (file : Bytes) → IsLoadUnderway told bounds rules start file old state
       → NamesWhy rules (Syntax f.name line) (HasFault told bounds rules start file old.fetches) × HasFetched told bounds rules start file old.fetches
   step_malformed old state items f place line e r l start file u = (
     inr (record {
@@ -149,7 +149,7 @@ steps_false told bounds rules old new before after more m h = subst (λ b. Steps
 -- an error of a step, of a load with these files and these rules
 pub steps_error : (told told' : Option Files) (bounds : Bounds) (rules rules' : Rules) (old new : Reading) (before after : List Clause) (e : HarvestFault) → told ≡ told' → rules ≡ rules'
     → StepsReading told bounds rules old new before after (Err e)
-    → (start : List Clause) (file : Bytes) → IsUnderway told' bounds rules' start file old before
+    → (start : List Clause) (file : Bytes) → IsLoadUnderway told' bounds rules' start file old before
     → NamesWhy rules' e (HasFault told' bounds rules' start file new.fetches) × HasFetched told' bounds rules' start file new.fetches
 steps_error told told' bounds rules rules' old new before after e t l h =
     subst (λ x. StepsReading x bounds rules' old new before after (Err e)) t

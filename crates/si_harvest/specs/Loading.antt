@@ -12,13 +12,13 @@ use Rattle.si_harvest.specs.declared.faults.HarvestFault.{HarvestFault}
 use Rattle.si_harvest.specs.Faults.{NamesWhy}
 use Rattle.si_harvest.specs.Opened.{HasFault, HasFetched}
 use Rattle.si_harvest.specs.Gains.{CountsNoMore, Gained, GainsByLoad}
-use Rattle.si_harvest.specs.Underway.{IsUnderway, AreWithin}
+use Rattle.si_harvest.specs.Underway.{IsLoadUnderway, AreFilesWithin}
 
 -- it is under way, its places are within their files, and what it gained is counted
 pub record IsLoading (told : Option Files) (bounds : Bounds) (rules : Rules) (start : List Clause)
     (file : Bytes) (reading : Reading) (kept : List Clause) (loaded : Loaded) : Type 0 where
-  pub underway : IsUnderway told bounds rules start file reading kept
-  pub within : AreWithin reading.files.items
+  pub underway : IsLoadUnderway told bounds rules start file reading kept
+  pub within : AreFilesWithin reading.files.items
   pub counted : CountsNoMore loaded kept
   pub gained : Gained rules start loaded kept
 

@@ -18,8 +18,8 @@ abbrev pub file_names : List OpenFile → List Bytes
 file_names files = map (λ f. f.name) files
 
 -- the innermost first
-abbrev pub opened : List OpenFile → List Bytes
-opened files = file_names (reverse files)
+abbrev pub opened_names : List OpenFile → List Bytes
+opened_names files = file_names (reverse files)
 
 -- one of the files has the name
 abbrev pub has_open : List OpenFile → Bytes → Bool
@@ -46,7 +46,7 @@ pub record HasOpened (told : Option Files) (bounds : Bounds) (name : Bytes)
 pub record OpensInside (told : Option Files) (bounds : Bounds) (name : Bytes)
     (AreListed : Option NameSet → Type 0) (outer : List OpenFile) (made : ℕ) (after : Reading)
     : Type 0 where
-  pub may : MayAsk bounds (opened outer) made name
+  pub may : MayAsk bounds (opened_names outer) made name
   pub file : OpenFile
   pub chosen : Option NameSet
   pub listed : AreListed chosen
@@ -59,14 +59,14 @@ pub record OpensInside (told : Option Files) (bounds : Bounds) (name : Bytes)
 abbrev pub IsUnopened : Option Files → Bounds → Bytes → List OpenFile → (before made : ℕ) → Fault
     → Type 0
 IsUnopened told bounds name outer before made fault =
-    (IsBarred bounds (opened outer) before name fault × (made ≡ before))
-    ⊎ (MayAsk bounds (opened outer) before name
+    (IsBarred bounds (opened_names outer) before name fault × (made ≡ before))
+    ⊎ (MayAsk bounds (opened_names outer) before name
     × IfSome told (λ files. IsWithheld files bounds name fault) × (made ≡ before + 1))
 
 -- no fetch more was made, or one, of a file that may be asked for
 abbrev pub FetchesOnce : Bounds → Bytes → List OpenFile → (before made : ℕ) → Type 0
 FetchesOnce bounds name outer before made =
-    (made ≡ before) ⊎ (MayAsk bounds (opened outer) before name × (made ≡ before + 1))
+    (made ≡ before) ⊎ (MayAsk bounds (opened_names outer) before name × (made ≡ before + 1))
 
 -- A file is opened inside these, after so many fetches, or the fault names why it can't be, or
 -- memory ran out. At most one fetch more is made.

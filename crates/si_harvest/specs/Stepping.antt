@@ -10,7 +10,7 @@ use Rattle.si_harvest.specs.declared.reading.Reading.{Reading}
 use Rattle.si_harvest.specs.declared.faults.HarvestFault.{HarvestFault}
 use Rattle.si_harvest.specs.Faults.{NamesWhy}
 use Rattle.si_harvest.specs.Opened.{HasFault, HasFetched}
-use Rattle.si_harvest.specs.Underway.{IsUnderway, AreWithin, steps_left}
+use Rattle.si_harvest.specs.Underway.{IsLoadUnderway, AreFilesWithin, steps_left}
 
 -- The library was called once for each fetch in between, and no more were made than there may be.
 pub record FetchesOn (most : ℕ) (old new : Reading) (before now : LibraryShown) : Type 0 where
@@ -23,9 +23,9 @@ pub record FetchesOn (most : ℕ) (old new : Reading) (before now : LibraryShown
 pub record StepsOn (told : Option Files) (bounds : Bounds) (rules : Rules) (old new : Reading)
     (before after : List Clause) : Type 0 where
   pub underway : (start : List Clause) (file : Bytes)
-      → IsUnderway told bounds rules start file old before
-      → IsUnderway told bounds rules start file new after
-  pub within : AreWithin new.files.items
+      → IsLoadUnderway told bounds rules start file old before
+      → IsLoadUnderway told bounds rules start file new after
+  pub within : AreFilesWithin new.files.items
   pub falls : steps_left bounds new < steps_left bounds old
 
 -- what a step answers: whether a file was open, or the fault of each load that is under way, with
@@ -37,6 +37,6 @@ StepsReading told bounds rules old new before after (Ok true) =
 StepsReading told bounds rules old new before after (Ok false) =
     (old.files.items ≡ []) × (after ≡ before) × (new.fetches ≡ old.fetches)
 StepsReading told bounds rules old new before after (Err e) =
-    (start : List Clause) (file : Bytes) → IsUnderway told bounds rules start file old before
+    (start : List Clause) (file : Bytes) → IsLoadUnderway told bounds rules start file old before
     → NamesWhy rules e (HasFault told bounds rules start file new.fetches)
     × HasFetched told bounds rules start file new.fetches

@@ -68,8 +68,8 @@ module _ (files : Files) (bounds : Bounds) (rules : Rules) where
 -- the others are. The fetches so far are those of these events, and the load ends with the last of
 -- them where the library fails at it. What the readings give from here on, the load gives after
 -- the events.
-pub record IsUnderway (told : Option Files) (bounds : Bounds) (rules : Rules) (start : List Clause)
-    (file : Bytes) (reading : Reading) (kept : List Clause) : Type 0 where
+pub record IsLoadUnderway (told : Option Files) (bounds : Bounds) (rules : Rules)
+    (start : List Clause) (file : Bytes) (reading : Reading) (kept : List Clause) : Type 0 where
   pub points : List ReadingPoint
   pub stand : Stand (reverse reading.files.items) points
   pub events : List Event
@@ -83,19 +83,19 @@ pub record IsUnderway (told : Option Files) (bounds : Bounds) (rules : Rules) (s
 
 -- ---- safety
 -- no place is past the end of its file, and no file is larger than may be read
-pub record IsWithin (file : OpenFile) : Type 0 where
+pub record IsFileWithin (file : OpenFile) : Type 0 where
   pub place : file.at ≤ length file.bytes.items
   pub size : length file.bytes.items ≤ MOST_OCCURRENCES
 
-abbrev pub AreWithin : List OpenFile → Type 0
-AreWithin files = AllByRecursion IsWithin files
+abbrev pub AreFilesWithin : List OpenFile → Type 0
+AreFilesWithin files = AllByRecursion IsFileWithin files
 
 -- how much is left to read of the files that are open
-abbrev pub left_of : List OpenFile → ℕ
-left_of [] = 0
-left_of (f ∷ fs) = (length f.bytes.items - f.at) + 1 + left_of fs
+abbrev pub left_to_read : List OpenFile → ℕ
+left_to_read [] = 0
+left_to_read (f ∷ fs) = (length f.bytes.items - f.at) + 1 + left_to_read fs
 
 -- more than so many steps can't follow
 abbrev pub steps_left : Bounds → Reading → ℕ
 steps_left bounds reading = (bounds.fetches - reading.fetches) *
-    (bounds.file + 2) + left_of reading.files.items
+    (bounds.file + 2) + left_to_read reading.files.items

@@ -7,7 +7,7 @@ ghost use Rattle.si_term.specs.Meaning.{name_of};
 ghost use Rattle.si_io.specs.Counts.{raised};
 ghost use Rattle.si_io.specs.Library.{Counts};
 ghost use Rattle.si_harvest.specs.Faults.{NamesWhy, HasLoadCause, UsesLibrary, bounds_of};
-ghost use Rattle.si_harvest.specs.Opened.{HasOpened, opened, has_open, lists, is_selected};
+ghost use Rattle.si_harvest.specs.Opened.{HasOpened, opened_names, has_open, lists, is_selected};
 
 use crate::faults::{HarvestFault, HarvestLimits};
 use crate::names::NameSet;
@@ -61,10 +61,10 @@ pub fn may_ask(
     limits: &HarvestLimits,
     name: &[u8],
 ) -> Result<(), HarvestFault>
-    ensures may { OnOk result (MayAsk (bounds_of limits.now) (opened files.now) fetches
+    ensures may { OnOk result (MayAsk (bounds_of limits.now) (opened_names files.now) fetches
         name.now) }
     ensures barred { IfErr result (λ e. (rules : Rules) → NamesWhy rules e (IsBarred
-        (bounds_of limits.now) (opened files.now) fetches name.now)) }
+        (bounds_of limits.now) (opened_names files.now) fetches name.now)) }
     ensures cause { (may_fail : Bool) (counts : Counts) → HasLoadCause may_fail counts counts
         result }
 {

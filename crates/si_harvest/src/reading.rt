@@ -9,7 +9,7 @@ ghost use Rattle.si_harvest.specs.Faults.{NamesWhy, UsesLibrary, bounds_of};
 ghost use Rattle.si_harvest.specs.Opened.{Enters, TriesClause, is_selected};
 ghost use Rattle.si_harvest.specs.Stepping.{FetchesOn, StepsReading};
 ghost use Rattle.si_harvest.specs.Gains.{CountsNoMore, GainsOn};
-ghost use Rattle.si_harvest.specs.Underway.{AreWithin, Lists};
+ghost use Rattle.si_harvest.specs.Underway.{AreFilesWithin, Lists};
 
 use crate::faults::{HarvestFault, HarvestLimits, Loaded};
 use crate::files::{OpenFile, line_of, may_ask, open, select};
@@ -134,7 +134,7 @@ impl Reading {
         store: &mut T,
         loaded: &mut Loaded,
     ) -> Result<bool, HarvestFault>
-        requires within { AreWithin self.old.files.items }
+        requires within { AreFilesWithin self.old.files.items }
         requires file { limits.now.file ≤ MOST_OCCURRENCES }
         requires limit { (T.rules store.old).entries ≤ MOST_OCCURRENCES }
         requires counted { CountsNoMore loaded.old (T.clauses store.old) }

@@ -30,8 +30,8 @@ abbrev pub asked_tree : Pattern → TwoTrees → Tree Term
 asked_tree p trees = tree_for (is_literal (pattern_entry p)) trees
 
 -- so many of its nodes are open for the pattern
-abbrev pub Passes : Relation → Pattern → Numbering → TwoTrees → ℕ → Type 0
-Passes relation p numbers trees passed =
+abbrev pub PassesNodes : Relation → Pattern → Numbering → TwoTrees → ℕ → Type 0
+PassesNodes relation p numbers trees passed =
     let tree = asked_tree p trees in
     CountsOpen tree tree.root relation (query_term numbers p) passed
 

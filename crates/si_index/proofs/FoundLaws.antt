@@ -23,14 +23,14 @@ use Rattle.si_index.specs.Finding.{position_and_place}
 use Rattle.si_index.specs.Showing.{ShowsEntry}
 use Rattle.si_index.specs.Slots.{HasSlots}
 use Rattle.si_index.proofs.EntryLaws.{all_clauses_known}
-use Rattle.si_index.specs.Searching.{numbers_of, pattern_in, IsReady, SolvesEntry, HasList, IsMatch, hit_of}
+use Rattle.si_index.specs.Searching.{numbers_of, pattern_in, IsReadyToSearch, SolvesEntry, HasList, IsMatch, hit_of}
 use Rattle.si_index.specs.declared.search.Search.{Search}
 use Rattle.si_index.specs.declared.wanted.Leaf.{Leaf}
 use Rattle.si_index.specs.declared.gather.Match.{Match}
 
 -- the numbers of a search are those of its index, whose clauses are sound
 pub is_ready : (s : Search) → numbers_of s ≡ s.index.now.numbers → IsNumbering s.index.now.numbers → IsSoundPattern (pattern_in s) → FlattensPattern (numbers_of s) (pattern_in s) s.query → HasSlots s.index.now s.slots
-    → IsSignatureOf s.index.now.clauses s.signature.now → AllByRecursion IsSoundClause s.index.now.clauses → IsReady s
+    → IsSignatureOf s.index.now.clauses s.signature.now → AllByRecursion IsSoundClause s.index.now.clauses → IsReadyToSearch s
 is_ready s numbers numbering sound flat slots signed clauses = record {
   numbering = subst IsNumbering (sym numbers) numbering;
   sound = sound;
@@ -79,7 +79,7 @@ module _ (s : Search) (e : Entry) (leaves : List Leaf) (n : ℕ) (read : Leaf) (
 -- what was solved is shown
 pub shows_entry : (s : Search) (numbers : Numbering) (e : Entry) (bindings : List Binding) (query_names entry_names : List Bytes) (extra : List Sym)
     → numbers_of s ≡ numbers
-    → IsReady s
+    → IsReadyToSearch s
     → SolvesEntry s.relation (query_numbers (numbers_of s) s.query.extra) (pattern_in s) e bindings
     → query_names ≡ distinct_variables (pattern_entry (pattern_in s))
     → entry_names ≡ distinct_variables e

@@ -17,9 +17,9 @@ use Rattle.si_keyed.proofs.PlacedLaws.{same_position}
 use Rattle.si_entries.specs.Walks.{GivesAfter, left_of, last_place}
 use Rattle.si_entries.specs.declared.Entries.{Entries}
 use Rattle.si_index.specs.Leaves.{StayMade}
-use Rattle.si_index.specs.Searching.{numbers_of, pattern_in, IsReady, IsKnownEntry, IsKnownClause, IsOfLeaf, HasSolution, IsMatch, AreMatches, hit_of}
+use Rattle.si_index.specs.Searching.{numbers_of, pattern_in, IsReadyToSearch, IsKnownEntry, IsKnownClause, IsOfLeaf, HasCanonicalSolution, IsMatch, AreMatches, hit_of}
 use Rattle.si_index.specs.Slots.{Slots}
-use Rattle.si_index.specs.Gathering.{IsBefore, Rise, IsAhead, IsHitAt, IsStandingAt, IsWalk, Adds}
+use Rattle.si_index.specs.Gathering.{IsBefore, Rise, IsAhead, IsHitAt, IsStandingAt, IsWalk, AddsHit}
 use Rattle.si_index.specs.declared.search.Search.{Search}
 use Rattle.si_index.specs.declared.gather.ClauseWalk.{ClauseWalk}
 use Rattle.si_index.specs.declared.gather.Match.{Match}
@@ -105,7 +105,7 @@ one_hit slots w a b rise h g =
     let clause = same_clause slots w.slot a.0 b.0 (h.key, h.clause) (g.key, g.clause) rise h.there g.there in
     same_Some a.1 b.1 (sym h.numbered ∙ ap (λ c. slice_get (entries c) w.entry) clause ∙ g.numbered)
 
-module _ (s : Search) (leaves : List Leaf) (w : Wanted) (hit : ℕ × Placed) (ready : IsReady s) (standing : IsStandingAt s leaves w) (h : IsHitAt s.slots w hit) where
+module _ (s : Search) (leaves : List Leaf) (w : Wanted) (hit : ℕ × Placed) (ready : IsReadyToSearch s) (standing : IsStandingAt s leaves w) (h : IsHitAt s.slots w hit) where
   its_hit : standing.hit.1 ≡ hit.1
   its_hit = one_hit s.slots w standing.hit hit ready.slots.rise standing.at h
 
@@ -115,7 +115,7 @@ module _ (s : Search) (leaves : List Leaf) (w : Wanted) (hit : ℕ × Placed) (r
   pub hit_of_leaf : IsOfLeaf s leaves w.leaf hit.1.entry
   hit_of_leaf = subst (λ (e : Placed). IsOfLeaf s leaves w.leaf e.entry) its_hit standing.of_leaf
 
-module _ (s : Search) (w : Wanted) (hit : ℕ × Placed) (ready : IsReady s) (h : IsHitAt s.slots w hit) where
+module _ (s : Search) (w : Wanted) (hit : ℕ × Placed) (ready : IsReadyToSearch s) (h : IsHitAt s.slots w hit) where
   its_clause : IsKnownClause (numbers_of s) (clause_of h.clause)
   its_clause = slot_known s hit.0 w.slot h.key h.clause ready h.there
 
@@ -173,7 +173,7 @@ pub adds_hit : (slots : Slots) (ws : List Wanted) (i : ℕ) (d : Wanted) (hit : 
 adds_hit slots ws i d hit old new less h at is = subst (AllZip (IsHitAt slots) (take (i + 1) ws)) (sym is) (zip_more (IsHitAt slots) ws old i d hit less h at)
 
 pub adds_match : (s : Search) (m : Match) (hit : ℕ × Placed) (old new : Matches) → new.found.items ≡ old.found.items ++ m ∷ [] → hit ≡ hit_of m
-    → StayMade old.leaves.items new.leaves.items → AreMatches s old → IsMatch s new.leaves.items m → Adds s hit old new
+    → StayMade old.leaves.items new.leaves.items → AreMatches s old → IsMatch s new.leaves.items m → AddsHit s hit old new
 adds_match s m hit old new pushed is stay each match = record {
   hits = ap (map hit_of) pushed ∙ map-append hit_of old.found.items (m ∷ []) ∙ ap (λ h. map hit_of old.found.items ++ h ∷ []) (sym is);
   each =
@@ -182,7 +182,7 @@ adds_match s m hit old new pushed is stay each match = record {
 }
 
 -- each hit has a solution
-pub hits_solved : (s : Search) (leaves : List Leaf) (ms : List Match) → AllByRecursion (IsMatch s leaves) ms → AllByRecursion (λ (hit : ℕ × Placed). HasSolution s.relation (pattern_in s) hit.1.entry) (map hit_of ms)
+pub hits_solved : (s : Search) (leaves : List Leaf) (ms : List Match) → AllByRecursion (IsMatch s leaves) ms → AllByRecursion (λ (hit : ℕ × Placed). HasCanonicalSolution s.relation (pattern_in s) hit.1.entry) (map hit_of ms)
 hits_solved s leaves [] all = tt
 hits_solved s leaves (m ∷ ms) all =
     let list = all.0.list.2 in

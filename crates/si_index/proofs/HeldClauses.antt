@@ -36,8 +36,8 @@ use Rattle.si_sign.proofs.StateLaws.{signature_of_none}
 use Rattle.si_sign.proofs.StoreLaws.{stored_none}
 use Rattle.std.proofs.lemmas.Option.{none-some}
 use Rattle.si_index.specs.Names.{key_of_name}
-use Rattle.si_index.specs.Stored.{keyed_clauses, IsKept, AreHeld}
-use Rattle.si_index.specs.Register.{IsRegisterOf, Enters, Uncounts, Leaves, IsSameRegister}
+use Rattle.si_index.specs.Stored.{keyed_clauses, IsKeptIndex, AreHeld}
+use Rattle.si_index.specs.Register.{IsRegisterOf, CountsClause, Uncounts, StrikesOut, IsSameRegister}
 use Rattle.si_index.specs.declared.register.Register.{Register}
 
 -- ---- the clauses with their keys
@@ -123,14 +123,14 @@ held_less numbers items rest key c old new held out removes legal =
 -- ---- the register of the clauses
 -- the clause's symbols are counted, and the others' numbers stay
 module _ (items : List (ℕ × term.Clause)) (register : Register) (trees : TwoTrees) (is : IsRegisterOf items register) (held : AreHeld items register trees) where
-  pub entered_held : (c : Clause) (between : Register) → Enters c register between → AreHeld items between trees
+  pub entered_held : (c : Clause) (between : Register) → CountsClause c register between → AreHeld items between trees
   entered_held c between enters = still_held register between items trees held enters.signature enters.numbers (λ s. omega (arith, enters.uses s, is.signed s))
 
-  pub entered_numbers : (c : Clause) (between : Register) → Enters c register between → unnumbered (numbering between.signature) (clause_symbols c) ≡ []
+  pub entered_numbers : (c : Clause) (between : Register) → CountsClause c register between → unnumbered (numbering between.signature) (clause_symbols c) ≡ []
   entered_numbers c between enters = none_lacking between.signature (clause_symbols c) (λ s. omega (arith, enters.uses s))
 
   -- and counted no more
-  pub uncounted_held : (c : Clause) (between new : Register) (after : TwoTrees) → Enters c register between → AreHeld items between after → Uncounts c between new → AreHeld items new after
+  pub uncounted_held : (c : Clause) (between new : Register) (after : TwoTrees) → CountsClause c register between → AreHeld items between after → Uncounts c between new → AreHeld items new after
   uncounted_held c between new after enters now undone =
       still_held between new items after now undone.signature undone.numbers (λ s. omega (arith, enters.uses s, is.signed s, undone.uses s))
 
@@ -139,7 +139,7 @@ module _ (items : List (ℕ × term.Clause)) (register : Register) (trees : TwoT
 
   -- a clause goes from the trees, and then from the register
   pub left_held : (key : ℕ) (c : term.Clause) (rest : List (ℕ × term.Clause)) (new : Register) (after : TwoTrees) → IsTakenOut items key c rest → RemovesClause key trees after → AreLegal after
-      → IsRegisterOf rest new → Leaves (clause_of c) key register new → AreHeld rest new after
+      → IsRegisterOf rest new → StrikesOut (clause_of c) key register new → AreHeld rest new after
   left_held key c rest new after out removes legal is_new leaves =
       still_held register new rest after (held_less (numbering register.signature) items rest key c trees after held out removes legal) leaves.counts.signature leaves.counts.numbers (λ s. omega (arith, is_new.signed s))
 
@@ -165,9 +165,9 @@ none_held items register trees none unknown alone =
       vacant false key other = alone.1.others key other
 
 pub none_kept : (rules : Rules) (items : List (ℕ × term.Clause)) (register : Register) → rules.entries ≤ MOST_OCCURRENCES → items ≡ [] → ((name : Name) → key_of_name [] register.names name ≡ None) → register.signature ≡ []
-    → register.entries ≡ 0 → IsKept rules items register
+    → register.entries ≡ 0 → IsKeptIndex rules items register
 none_kept rules items register small none unnamed unknown uncounted =
-    subst (λ l. IsKept rules l register) (sym none)
+    subst (λ l. IsKeptIndex rules l register) (sym none)
     (record {
       small = small;
       stored = stored_none rules;

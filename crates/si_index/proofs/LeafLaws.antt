@@ -11,7 +11,7 @@ use Rattle.si_form.specs.declared.solution.Binding.{Binding}
 use Rattle.si_changes.proofs.StoredLaws.{one_leaf}
 use Rattle.si_flat.specs.Cells.{Term}
 use Rattle.si_index.specs.Leaves.{HasLeafAt, HasMade, IsUnmade, AreUnmade, StayMade}
-use Rattle.si_index.specs.Searching.{numbers_of, pattern_in, term_in, tree_in, IsReady, IsKnownEntry, SolvesTerm, IsLeafOf, IsOfLeaf, AreMade, HasList}
+use Rattle.si_index.specs.Searching.{numbers_of, pattern_in, term_in, tree_in, IsReadyToSearch, IsKnownEntry, SolvesTerm, IsLeafOf, IsOfLeaf, AreMade, HasList}
 use Rattle.si_index.specs.declared.search.Search.{Search}
 use Rattle.si_index.specs.declared.wanted.Leaf.{Leaf}
 use Rattle.si_index.proofs.SolvedLaws.{term_solves}
@@ -85,7 +85,7 @@ module _ (leaves : List Leaf) (at : ℕ) (l made : Leaf) (here : slice_get leave
       ]
 
 -- ---- the list that a leaf has is that of each of its entries
-pub has_list : (s : Search) (leaves : List Leaf) (n : ℕ) (e : Entry) (list : List Binding) → IsReady s → IsKnownEntry (numbers_of s) e → Stands s.relation (pattern_in s) e → IsOfLeaf s leaves n e → AreMade s leaves → HasMade leaves n list
+pub has_list : (s : Search) (leaves : List Leaf) (n : ℕ) (e : Entry) (list : List Binding) → IsReadyToSearch s → IsKnownEntry (numbers_of s) e → Stands s.relation (pattern_in s) e → IsOfLeaf s leaves n e → AreMade s leaves → HasMade leaves n list
     → HasList s e leaves n
 has_list s leaves n e list ready known stands of_leaf made h =
     let own = made n list h in
@@ -110,7 +110,7 @@ module _ (s : Search) (leaves : List Leaf) (n : ℕ) (e : Entry) (read : Leaf) (
   pub got_leaf : slice_get leaves n ≡ Some read
   got_leaf = slice_get-get_or leaves n read leaf_inside ∙ ap Some (sym is)
 
-  pub has_list_there : IsReady s → IsKnownEntry (numbers_of s) e → Stands s.relation (pattern_in s) e → AreMade s leaves → is_some read.list ≡ true → HasList s e leaves n
+  pub has_list_there : IsReadyToSearch s → IsKnownEntry (numbers_of s) e → Stands s.relation (pattern_in s) e → AreMade s leaves → is_some read.list ≡ true → HasList s e leaves n
   has_list_there ready known stands made some =
       let own = some_list read.list some in
       has_list s leaves n e own.0 ready known stands of_leaf made (read, got_leaf, own.1)

@@ -24,8 +24,8 @@ use Rattle.si_sign.proofs.UsesOf.{among_numbering, numbering_among, uses_positiv
 use Rattle.si_keyed.specs.Keyed.{HasKey, HasKeyAt, IsTakenOut}
 use Rattle.si_index.specs.Kept.{KeysStay, clauses_of}
 use Rattle.si_index.specs.Names.{key_of_name, AreNamed, ChangesName, NameLeadsAway}
-use Rattle.si_index.specs.Register.{IsRegisterOf, HasPut, Admits, Enters, Uncounts, Leaves, IsSameRegister, Bars}
-use Rattle.si_index.specs.Stored.{IsKept}
+use Rattle.si_index.specs.Register.{IsRegisterOf, HasPut, Admits, CountsClause, Uncounts, StrikesOut, IsSameRegister, Bars}
+use Rattle.si_index.specs.Stored.{IsKeptIndex}
 use Rattle.si_index.specs.declared.register.Register.{Register}
 use Rattle.si_index.specs.declared.names.ClauseNames.{ClauseNames}
 use Rattle.si_keyed.proofs.KeyLaws.{item_of, key_taken, last_behind}
@@ -68,15 +68,15 @@ module _ (rules : Rules) (items : List (ℕ × term.Clause)) (register : Registe
   }
 
 -- ---- what is kept, before and after a change
-pub room_for : (rules : Rules) (items : List (ℕ × term.Clause)) (register : Register) (c : Clause) → IsKept rules items register → IsSoundClause c
+pub room_for : (rules : Rules) (items : List (ℕ × term.Clause)) (register : Register) (c : Clause) → IsKeptIndex rules items register → IsSoundClause c
     → total register.signature + length (clause_symbols c) ≤ MOST_USES
 room_for rules items register c kept sound =
     omega (arith, kept.registered.used, as_many_symbols (clauses_of items) kept.stored.sound, kept.stored.few, kept.small, symbols_few c sound)
 
-pub counted_few : (rules : Rules) (items : List (ℕ × term.Clause)) (register : Register) → IsKept rules items register → register.entries ≤ MOST_OCCURRENCES
+pub counted_few : (rules : Rules) (items : List (ℕ × term.Clause)) (register : Register) → IsKeptIndex rules items register → register.entries ≤ MOST_OCCURRENCES
 counted_few rules items register kept = omega (arith, kept.registered.counted, kept.stored.few, kept.small)
 
-pub kept_stays : (rules : Rules) (old new : Register) (items : List (ℕ × term.Clause)) → IsKept rules items old → IsSameRegister items old new → IsKept rules items new
+pub kept_stays : (rules : Rules) (old new : Register) (items : List (ℕ × term.Clause)) → IsKeptIndex rules items old → IsSameRegister items old new → IsKeptIndex rules items new
 kept_stays rules old new items kept same = record {
   small = kept.small;
   stored = kept.stored;
@@ -91,7 +91,7 @@ kept_stays rules old new items kept same = record {
 
 -- a clause that is put last
 module _ (rules : Rules) (old between : Register) (items more : List (ℕ × term.Clause)) (c : term.Clause) (names : ClauseNames) (good : IsSignature old.signature)
-    (kept : IsKept rules items old) (sound : IsSoundClause (clause_of c)) (admits : Admits rules.entries items old (clause_of c)) (enters : Enters (clause_of c) old between)
+    (kept : IsKeptIndex rules items old) (sound : IsSoundClause (clause_of c)) (admits : Admits rules.entries items old (clause_of c)) (enters : CountsClause (clause_of c) old between)
     (put : HasPut c items more between.names names) where
   clauses_more : clauses_of more ≡ clauses_of items ++ clause_of c ∷ []
   clauses_more = ap clauses_of put.1.pushed ∙ map-append (λ p. clause_of p.1) items ((put.0, c) ∷ [])
@@ -105,7 +105,7 @@ module _ (rules : Rules) (old between : Register) (items more : List (ℕ × ter
       (named_more items put.0 c (key_of_name items between.names) (key_of_name more names) (subst (λ m. AreNamed items (key_of_name items m)) (sym enters.names) kept.registered.names) put.1.fresh
       (ap (λ m. key_of_name items m (name_of c.name)) enters.names ∙ admits.free) put.1.name)
 
-  pub kept_more : IsKept rules more (record { names = names; signature = between.signature; entries = between.entries })
+  pub kept_more : IsKeptIndex rules more (record { names = names; signature = between.signature; entries = between.entries })
   kept_more =
       let behind = append-nil (clauses_of items) in
       record {
@@ -179,7 +179,7 @@ numbers_through old between new good more first second s m n a b =
     subst (λ r. IsAmong (numbering between) (r, here.used.number)) here.is (among_numbering between here.used here.among) in
     first s m here.used.number a middle ∙ second s here.used.number n middle b
 
-pub entered_back : (items : List (ℕ × term.Clause)) (old between new : Register) (c : Clause) → IsSignature old.signature → Enters c old between
+pub entered_back : (items : List (ℕ × term.Clause)) (old between new : Register) (c : Clause) → IsSignature old.signature → CountsClause c old between
     → ((name : Name) → key_of_name items new.names name ≡ key_of_name items between.names name)
     → ((s : Symbol) → uses_of new.signature s + times s (clause_symbols c) ≡ uses_of between.signature s)
     → total new.signature + length (clause_symbols c) ≡ total between.signature → new.entries ≡ old.entries
@@ -194,7 +194,7 @@ entered_back items old between new c good enters same uses sum entered numbers s
 }
 
 -- a clause that stands between others
-module _ (rules : Rules) (old : Register) (items : List (ℕ × term.Clause)) (key : ℕ) (c : term.Clause) (rest : List (ℕ × term.Clause)) (kept : IsKept rules items old)
+module _ (rules : Rules) (old : Register) (items : List (ℕ × term.Clause)) (key : ℕ) (c : term.Clause) (rest : List (ℕ × term.Clause)) (kept : IsKeptIndex rules items old)
     (out : IsTakenOut items key c rest) where
   pub splits : clauses_of items ≡ clauses_of out.before ++ clause_of c ∷ clauses_of out.after
   splits = ap clauses_of out.whole ∙ map-append (λ p. clause_of p.1) out.before ((key, c) ∷ out.after)
@@ -248,7 +248,7 @@ module _ (rules : Rules) (old : Register) (items : List (ℕ × term.Clause)) (k
       subst (λ l. AreNamed l (key_of_name l new)) (sym out.rest)
       (named_less out.before key c out.after (key_of_name (out.before ++ (key, c) ∷ out.after) old.names) (key_of_name (out.before ++ out.after) new) names_there free_without (name_gone new left))
 
-  pub kept_less : (new : Register) → Leaves (clause_of c) key old new → IsKept rules rest new
+  pub kept_less : (new : Register) → StrikesOut (clause_of c) key old new → IsKeptIndex rules rest new
   kept_less new leaves = record {
     small = kept.small;
     stored = subst (IsStored rules) (sym rest_is) (stored_less rules (clauses_of out.before) (clause_of c) (clauses_of out.after) stored_there);

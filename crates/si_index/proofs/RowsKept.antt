@@ -15,7 +15,7 @@ use Rattle.si_keyed.proofs.KeyLaws.{key_among}
 use Rattle.si_screen.specs.ClauseRows.{IsRowOf}
 use Rattle.si_screen.proofs.RowLaws.{row_stays}
 use Rattle.si_index.specs.Kept.{clauses_of}
-use Rattle.si_index.specs.Register.{IsRegisterOf, Enters, Uncounts, Leaves, IsSameRegister}
+use Rattle.si_index.specs.Register.{IsRegisterOf, CountsClause, Uncounts, StrikesOut, IsSameRegister}
 use Rattle.si_index.specs.Stored.{HaveRows}
 use Rattle.si_index.specs.declared.register.Register.{Register}
 use Rattle.si_index.proofs.HeldClauses.{AreUsed, used_in}
@@ -72,13 +72,13 @@ rows_less numbers items new rows after key c row have out out_rows k d r a b =
     have k d r (left_there items new key c (k, d) out a) (left_there rows after key row (k, r) out_rows b)
 
 -- ---- the register of the clauses
-pub uncounted_rows : (items : List (ℕ × term.Clause)) (rows : List (ℕ × List ℕ)) (register : Register) (c : Clause) (between new : Register) → IsRegisterOf items register → Enters c register between → Uncounts c between new → HaveRows (numbering between.signature) items rows
+pub uncounted_rows : (items : List (ℕ × term.Clause)) (rows : List (ℕ × List ℕ)) (register : Register) (c : Clause) (between new : Register) → IsRegisterOf items register → CountsClause c register between → Uncounts c between new → HaveRows (numbering between.signature) items rows
     → HaveRows (numbering new.signature) items rows
 uncounted_rows items rows register c between new is enters undone now =
     still_rows between.signature new.signature items rows now undone.numbers (λ s. omega (arith, enters.uses s, is.signed s)) (λ s. omega (arith, enters.uses s, is.signed s, undone.uses s))
 
 module _ (items : List (ℕ × term.Clause)) (rows : List (ℕ × List ℕ)) (register : Register) (is : IsRegisterOf items register) (have : HaveRows (numbering register.signature) items rows) where
-  pub entered_rows : (c : Clause) (between : Register) → Enters c register between → HaveRows (numbering between.signature) items rows
+  pub entered_rows : (c : Clause) (between : Register) → CountsClause c register between → HaveRows (numbering between.signature) items rows
   entered_rows c between enters =
       still_rows register.signature between.signature items rows have enters.numbers (λ s. omega (arith, is.signed s)) (λ s. omega (arith, enters.uses s, is.signed s))
 
@@ -86,7 +86,7 @@ module _ (items : List (ℕ × term.Clause)) (rows : List (ℕ × List ℕ)) (re
   stays_rows new same = still_rows register.signature new.signature items rows have same.numbers (λ s. omega (arith, is.signed s)) (λ s. omega (arith, same.uses s, is.signed s))
 
   pub left_rows : (key : ℕ) (c : term.Clause) (rest : List (ℕ × term.Clause)) (row : List ℕ) (after : List (ℕ × List ℕ)) (new : Register) → IsTakenOut items key c rest → IsTakenOut rows key row after
-      → IsRegisterOf rest new → Leaves (clause_of c) key register new → HaveRows (numbering new.signature) rest after
+      → IsRegisterOf rest new → StrikesOut (clause_of c) key register new → HaveRows (numbering new.signature) rest after
   left_rows key c rest row after new out out_rows is_new leaves =
       still_rows register.signature new.signature rest after (rows_less (numbering register.signature) items rest rows after key c row have out out_rows) leaves.counts.numbers
       (λ s. omega (arith, leaves.counts.uses s, is_new.signed s)) (λ s. omega (arith, is_new.signed s))

@@ -11,7 +11,7 @@ use Rattle.si_keyed.specs.Placed.{placed_items, HasPlace, PlacesRise}
 use Rattle.si_keyed.proofs.PlacedLaws.{key_is}
 use Rattle.si_index.specs.Kept.{Kept, clauses_of}
 use Rattle.si_index.specs.Slots.{Slots, HasSlots, IsIn}
-use Rattle.si_index.specs.Searching.{numbers_of, IsKnownClause, IsReady}
+use Rattle.si_index.specs.Searching.{numbers_of, IsKnownClause, IsReadyToSearch}
 use Rattle.si_index.specs.declared.search.Search.{Search}
 
 pub place_among : {X : Type 0} (xs : List X) (x : X) → IsAmong xs x → (n : ℕ) × (slice_get xs n ≡ Some x)
@@ -47,7 +47,7 @@ module _ (k : Kept) (slots : Slots) (h : HasSlots k slots) (n slot key : ℕ) (c
   pub has_clause : slice_get k.clauses n ≡ Some (clause_of c)
   has_clause = ap (λ l. slice_get l n) (sym h.clauses) ∙ clause_got slots n (slot, (key, c)) there
 
-pub slot_known : (s : Search) (n slot key : ℕ) (c : Clause) → IsReady s → slice_get s.slots n ≡ Some (slot, (key, c)) → IsKnownClause (numbers_of s) (clause_of c)
+pub slot_known : (s : Search) (n slot key : ℕ) (c : Clause) → IsReadyToSearch s → slice_get s.slots n ≡ Some (slot, (key, c)) → IsKnownClause (numbers_of s) (clause_of c)
 slot_known s n slot key c ready there =
     all_got (IsKnownClause (numbers_of s)) s.index.now.clauses n (clause_of c) ready.known (has_clause s.index.now s.slots ready.slots n slot key c there)
 

@@ -35,7 +35,7 @@ use Rattle.si_held.proofs.AnswerLaws.{answers_held}
 use Rattle.si_descend.specs.Answers.{IsStoredAnswer}
 use Rattle.si_index.specs.Kept.{Kept, AreKeyed, TreesHold, paired, kept_clauses}
 use Rattle.si_index.specs.Finding.{AreHits, entries_from_position}
-use Rattle.si_index.specs.Engines.{Answering, asks_literals, AreAsked, IsOfStanding, AnswersStanding, IsWanted, IsOfWanted, AnswersWanted, Counting, Finds, IsStoredFor, CountsNodes, TreesAnswer}
+use Rattle.si_index.specs.Engines.{Answering, asks_literals, AreAsked, IsOfStanding, AnswersStanding, IsWantedEntry, IsOfWanted, AnswersWanted, Counting, FindsHits, IsStoredFor, CountsNodes, TreesAnswer}
 use Rattle.si_index.specs.Searching.{IsKnownEntry, IsKnownClause}
 use Rattle.si_index.proofs.EntryLaws.{known_entry, all_clauses_known}
 use Rattle.si_index.proofs.FlatLaws.{all_numbered, more_numbers, tells_apart, both_numbered, is_for}
@@ -83,7 +83,7 @@ same_or_not false true P same differ = differ (λ e. let wrong : false ≡ true 
 
 -- ---- an entry is wanted where it stands in the relation
 module _ (relation : Relation) (table : Numbering) (q : FlatQuery) (numbering : IsNumbering table) where
-  wanted_stands : (p : Pattern) (e : Entry) → IsSoundPattern p → FlattensPattern table p q → IsKnownEntry table e → IsWanted table (asks_literals p) relation q.flat e → Stands relation p e
+  wanted_stands : (p : Pattern) (e : Entry) → IsSoundPattern p → FlattensPattern table p q → IsKnownEntry table e → IsWantedEntry table (asks_literals p) relation q.flat e → Stands relation p e
   wanted_stands (literal_pattern l) (literal_entry k) sound flat known w =
       let extra = extra_numbers (map symbol_of q.extra) in
       let of_p = all_numbered (query_numbers table q.extra) (symbols l.atom) flat.complete in
@@ -103,7 +103,7 @@ module _ (relation : Relation) (table : Numbering) (q : FlatQuery) (numbering : 
   wanted_stands (literal_pattern l) (term_entry u) sound flat known w = absurd (let wrong : false ≡ true = w.kind in cc)
   wanted_stands (term_pattern t) (literal_entry k) sound flat known w = absurd (let wrong : true ≡ false = w.kind in cc)
 
-  stands_wanted : (p : Pattern) (e : Entry) → FlattensPattern table p q → IsKnownEntry table e → Stands relation p e → IsWanted table (asks_literals p) relation q.flat e
+  stands_wanted : (p : Pattern) (e : Entry) → FlattensPattern table p q → IsKnownEntry table e → Stands relation p e → IsWantedEntry table (asks_literals p) relation q.flat e
   stands_wanted (literal_pattern l) (literal_entry k) flat known s =
       let extra = extra_numbers (map symbol_of q.extra) in
       let of_p = all_numbered (query_numbers table q.extra) (symbols l.atom) flat.complete in
@@ -155,12 +155,12 @@ wanted_is_standing k relation p query q orderly sound asked = (
     w.0,
     w.1,
     wanted_stands relation k.numbers asked.0 orderly.numbering p w.0 sound asked.1 (kept_is_known k q w.0 orderly w.1)
-        (subst (λ cs. IsWanted k.numbers (asks_literals p) relation cs w.0) asked.2 w.2),
+        (subst (λ cs. IsWantedEntry k.numbers (asks_literals p) relation cs w.0) asked.2 w.2),
   )),
   (λ s. (
     s.0,
     s.1,
-    subst (λ cs. IsWanted k.numbers (asks_literals p) relation cs s.0) (sym asked.2)
+    subst (λ cs. IsWantedEntry k.numbers (asks_literals p) relation cs s.0) (sym asked.2)
         (stands_wanted relation k.numbers asked.0 orderly.numbering p s.0 asked.1 (kept_is_known k q s.0 orderly s.1) s.2),
   )),
 )
@@ -178,7 +178,7 @@ answers_stand answers k relation p orderly sound wanted query asked q a = (answe
 
 -- the hits are then the kept entries in the relation
 pub finds_all : (answers : Answering) (count : Counting) (k : Kept) (relation : Relation) (p : Pattern) (hits : List (ℕ × Placed)) (passed : ℕ)
-    → IsOrderly k → IsSoundPattern p → AnswersWanted answers k → Finds answers count k relation p hits passed → AreHits relation p (entries_from_position 0 k.clauses) hits
+    → IsOrderly k → IsSoundPattern p → AnswersWanted answers k → FindsHits answers count k relation p hits passed → AreHits relation p (entries_from_position 0 k.clauses) hits
 finds_all answers count k relation p hits passed orderly sound wanted h =
     entries_are_hits k relation p (answers (asks_literals p) relation h.cells) hits orderly.keyed
     (λ q. answers_standing answers k relation p h.cells q orderly sound wanted h.asked) h.answered
@@ -233,5 +233,5 @@ module _ (k : Kept) (trees : TwoTrees) (relation : Relation) (p : Pattern) (answ
   pub trees_stand : AnswersStanding (IsStoredFor trees) k relation p
   trees_stand = subst (λ t. AnswersStanding (IsStoredFor t) k relation p) (sym same) (answer.standing relation p sound)
 
-  pub trees_find : (hits : List (ℕ × Placed)) (passed : ℕ) → Finds (IsStoredFor trees) (CountsNodes trees) k relation p hits passed → AreHits relation p (entries_from_position 0 k.clauses) hits
-  trees_find hits passed finds = answer.complete relation p hits passed sound (subst (λ t. Finds (IsStoredFor t) (CountsNodes t) k relation p hits passed) same finds)
+  pub trees_find : (hits : List (ℕ × Placed)) (passed : ℕ) → FindsHits (IsStoredFor trees) (CountsNodes trees) k relation p hits passed → AreHits relation p (entries_from_position 0 k.clauses) hits
+  trees_find hits passed finds = answer.complete relation p hits passed sound (subst (λ t. FindsHits (IsStoredFor t) (CountsNodes t) k relation p hits passed) same finds)

@@ -71,7 +71,7 @@ AreAnswered these (x ∷ xs) hits =
 
 -- the hits are the entries of exactly the answers to the pattern's question, in order, and so much
 -- was counted
-pub record Finds (answers : Answering) (count : Counting) (k : Kept) (relation : Relation)
+pub record FindsHits (answers : Answering) (count : Counting) (k : Kept) (relation : Relation)
     (p : Pattern) (hits : List (ℕ × Placed)) (passed : ℕ) : Type 0 where
   pub cells : List Cell
   pub asked : AreAsked k.numbers p cells
@@ -82,7 +82,7 @@ pub record Finds (answers : Answering) (count : Counting) (k : Kept) (relation :
 -- ---- engines over flat terms
 -- The entry is of the kind that is asked for, and its flat term, with these numbers for its
 -- symbols, stands in the relation to the query.
-pub record IsWanted (numbers : Numbering) (literal : Bool) (relation : Relation)
+pub record IsWantedEntry (numbers : Numbering) (literal : Bool) (relation : Relation)
     (query : List Cell) (e : Entry) : Type 0 where
   pub kind : is_literal e ≡ literal
   pub term : Term
@@ -92,7 +92,8 @@ pub record IsWanted (numbers : Numbering) (literal : Bool) (relation : Relation)
 -- it is the posting of a kept entry that is wanted
 abbrev pub IsOfWanted : Kept → Answering
 IsOfWanted k literal relation query p =
-    (e : Entry) × IsPostingOf (kept_clauses k) p e × IsWanted k.numbers literal relation query e
+    (e : Entry) × IsPostingOf (kept_clauses k) p e
+    × IsWantedEntry k.numbers literal relation query e
 
 -- the answers are the postings of the kept entries that are wanted
 abbrev pub AnswersWanted : Answering → Kept → Type 0
@@ -119,5 +120,5 @@ pub record TreesAnswer (k : Kept) : Type 0 where
       → AnswersStanding (IsStoredFor k.trees) k relation p
   pub complete : (relation : Relation) (p : Pattern) (hits : List (ℕ × Placed)) (passed : ℕ)
       → IsSoundPattern p
-      → Finds (IsStoredFor k.trees) (CountsNodes k.trees) k relation p hits passed
+      → FindsHits (IsStoredFor k.trees) (CountsNodes k.trees) k relation p hits passed
       → AreHits relation p (entries_from_position 0 k.clauses) hits

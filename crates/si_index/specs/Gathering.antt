@@ -13,7 +13,7 @@ use Rattle.si_legal.specs.declared.Posting.{Posting}
 use Rattle.si_legal.specs.StoredSets.{IsUnder}
 use Rattle.si_legal.specs.Trees.{Tree, StandsIn}
 use Rattle.si_index.specs.Leaves.{HasLeafAt, AreUnmade}
-use Rattle.si_index.specs.Searching.{pattern_in, IsReady, AreMatches, IsOfLeaf, hit_of}
+use Rattle.si_index.specs.Searching.{pattern_in, IsReadyToSearch, AreMatches, IsOfLeaf, hit_of}
 use Rattle.si_index.specs.Slots.{Slots, IsIn}
 use Rattle.si_index.specs.declared.gather.ClauseWalk.{ClauseWalk}
 use Rattle.si_index.specs.declared.gather.Matches.{Matches}
@@ -92,14 +92,14 @@ abbrev pub IsAhead : ClauseWalk → Wanted → Type 0
 IsAhead walk w = walk.slot ≡ w.slot → walk.next ≤ w.entry
 
 -- this hit was added
-pub record Adds (s : Search) (hit : ℕ × Placed) (old new : Matches) : Type 0 where
+pub record AddsHit (s : Search) (hit : ℕ × Placed) (old new : Matches) : Type 0 where
   pub hits : map hit_of new.found.items ≡ map hit_of old.found.items ++ hit ∷ []
   pub each : AreMatches s new
 
 -- ---- all that stand at some places
 -- they stand there, in order, and nothing was found yet
 pub record MayGather (s : Search) (places : List Wanted) (ms : Matches) : Type 0 where
-  pub ready : IsReady s
+  pub ready : IsReadyToSearch s
   pub unmade : AreUnmade ms.leaves.items
   pub stand : AllByRecursion (IsStandingAt s ms.leaves.items) places
   pub rise : Rise places

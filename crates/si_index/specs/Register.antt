@@ -46,7 +46,7 @@ pub record Admits (limit : ℕ) (items : List (ℕ × term.Clause)) (register : 
   pub room : register.entries + length (entries clause) ≤ limit
 
 -- the symbols and the entries of the clause are counted
-pub record Enters (clause : Clause) (old new : Register) : Type 0 where
+pub record CountsClause (clause : Clause) (old new : Register) : Type 0 where
   pub names : new.names ≡ old.names
   pub uses : (s : Symbol)
       → uses_of new.signature s ≡ uses_of old.signature s + times s (clause_symbols clause)
@@ -65,7 +65,7 @@ pub record Uncounts (clause : Clause) (old new : Register) : Type 0 where
   pub numbers : KeepsNumbers old.signature new.signature
 
 -- the clause is struck out, and its name leads to its key no more
-pub record Leaves (clause : Clause) (key : ℕ) (old new : Register) : Type 0 where
+pub record StrikesOut (clause : Clause) (key : ℕ) (old new : Register) : Type 0 where
   pub name : NameLeadsAway clause.name key old.names new.names
   pub counts : Uncounts clause old new
 

@@ -41,11 +41,11 @@ abbrev pub pattern_in : Search → Pattern
 pattern_in s = pattern_of s.pattern.now
 
 -- only literals of one sign are compared, and terms with terms
-abbrev pub AreAlike : Pattern → Entry → Type 0
-AreAlike (literal_pattern l) (literal_entry k) = l.positive ≡ k.positive
-AreAlike (term_pattern t) (term_entry u) = Unit {0}
-AreAlike (literal_pattern l) (term_entry u) = ⊥
-AreAlike (term_pattern t) (literal_entry k) = ⊥
+abbrev pub AreComparable : Pattern → Entry → Type 0
+AreComparable (literal_pattern l) (literal_entry k) = l.positive ≡ k.positive
+AreComparable (term_pattern t) (term_entry u) = Unit {0}
+AreComparable (literal_pattern l) (term_entry u) = ⊥
+AreComparable (term_pattern t) (literal_entry k) = ⊥
 
 -- ---- what is searched: terms and clauses that are sound, and whose symbols have numbers
 pub record IsKnownTerm (numbers : Numbering) (t : Term) : Type 0 where
@@ -67,7 +67,7 @@ pub record IsKnownClause (numbers : Numbering) (c : Clause) : Type 0 where
   pub numbered : HaveNumbers numbers (clause_symbols c)
 
 -- ---- the search can begin: its clauses are those of the index, and are known
-pub record IsReady (s : Search) : Type 0 where
+pub record IsReadyToSearch (s : Search) : Type 0 where
   pub numbering : IsNumbering (numbers_of s)
   pub sound : IsSoundPattern (pattern_in s)
   pub flat : FlattensPattern (numbers_of s) (pattern_in s) s.query
@@ -76,7 +76,7 @@ pub record IsReady (s : Search) : Type 0 where
 
 -- ---- what an entry is answered
 -- the entry stands in the relation, and has a canonical list
-pub record HasSolution (relation : Relation) (p : Pattern) (e : Entry) : Type 0 where
+pub record HasCanonicalSolution (relation : Relation) (p : Pattern) (e : Entry) : Type 0 where
   pub stands : Stands relation p e
   pub solution : Solution
   pub solves : Solves relation p e solution
@@ -158,7 +158,7 @@ hit_of m = (m.hit.clause, record { entry = entry_of m.entry; place = place_of m.
 -- what was found in an index: no more than its clauses may have
 pub record IsFound (s : Search) (query_names : List Bytes) (ms : Matches) : Type 0 where
   pub numbers : numbers_of s ≡ s.index.now.numbers
-  pub ready : IsReady s
+  pub ready : IsReadyToSearch s
   pub names : query_names ≡ distinct_variables (pattern_entry (pattern_in s))
   pub few : length ms.found.items ≤ MOST_OCCURRENCES
   pub each : AreMatches s ms

@@ -20,7 +20,7 @@ use Rattle.si_index.specs.Register.{IsRegisterOf}
 use Rattle.si_index.specs.Names.{key_of_name}
 use Rattle.si_index.specs.declared.register.Register.{Register}
 
-pub record IsKept (rules : Rules) (items : List (ℕ × term.Clause)) (register : Register)
+pub record IsKeptIndex (rules : Rules) (items : List (ℕ × term.Clause)) (register : Register)
     : Type 0 where
   pub small : rules.entries ≤ MOST_OCCURRENCES
   pub stored : IsStored rules (clauses_of items)

@@ -197,8 +197,8 @@ pub(crate) fn asks_literals(pattern: &Pattern) -> bool
 }
 
 impl Index {
-    ghost use Rattle.si_index.specs.Searching.{HasSolution};
-    ghost use Rattle.si_index.specs.Engines.{AnswersStanding, Finds};
+    ghost use Rattle.si_index.specs.Searching.{HasCanonicalSolution};
+    ghost use Rattle.si_index.specs.Engines.{AnswersStanding, FindsHits};
 
     /// Finds the entries that the engine answers to the pattern, in the order of acceptance and of
     /// entries, each with its canonical list.
@@ -218,10 +218,10 @@ impl Index {
         ensures index { IfOk result (λ f. f.index ≡ self.now) }
         ensures relation { IfOk result (λ f. f.relation ≡ relation) }
         ensures pattern { IfOk result (λ f. f.pattern ≡ pattern_of pattern.now) }
-        ensures hits { IfOk result (λ f. Finds (E.answers engine.now) (E.count engine.now)
+        ensures hits { IfOk result (λ f. FindsHits (E.answers engine.now) (E.count engine.now)
             self.now relation (pattern_of pattern.now) f.hits f.passed) }
         ensures solved { IfOk result (λ f. AllByRecursion
-            (λ hit. HasSolution relation (pattern_of pattern.now) hit.1.entry) f.hits) }
+            (λ hit. HasCanonicalSolution relation (pattern_of pattern.now) hit.1.entry) f.hits) }
     {
         let alloc = self.allocator();
         let stats = self.stats();

@@ -7,8 +7,8 @@ ghost use Rattle.si_state.specs.Answers.{Stands};
 ghost use Rattle.si_entries.specs.Walks.{last_place};
 ghost use Rattle.si_keyed.specs.Placed.{HasPlace};
 ghost use Rattle.si_index.specs.Leaves.{AreUnmade, StayMade};
-ghost use Rattle.si_index.specs.Searching.{numbers_of, pattern_in, IsReady, IsKnownEntry, IsOfLeaf, AreMade, HasList, AreMatches};
-ghost use Rattle.si_index.specs.Gathering.{Rise, IsAhead, IsHitAt, IsStandingAt, IsWalk, Adds, MayGather, AreGathered};
+ghost use Rattle.si_index.specs.Searching.{numbers_of, pattern_in, IsReadyToSearch, IsKnownEntry, IsOfLeaf, AreMade, HasList, AreMatches};
+ghost use Rattle.si_index.specs.Gathering.{Rise, IsAhead, IsHitAt, IsStandingAt, IsWalk, AddsHit, MayGather, AreGathered};
 
 use crate::found::Hit;
 use crate::search::{Search, Workspace};
@@ -51,7 +51,7 @@ struct ClauseWalk<'a> {
 impl<'a> ClauseWalk<'a> {
     /// All entries of the clause in this slot come next.
     fn new(search: &Search<'a>, slot: u32) -> ClauseWalk<'a>
-        requires ready { IsReady search.now }
+        requires ready { IsReadyToSearch search.now }
         requires there { HasPlace search.now.slots slot }
         ensures walk { IsWalk search.now.slots result }
         ensures slot { result.slot ≡ slot }
@@ -69,7 +69,7 @@ impl<'a> ClauseWalk<'a> {
 
     /// Begins with the clause in this slot, unless it is there.
     fn turn_to(&mut self, search: &Search<'a>, place: Wanted)
-        requires ready { IsReady search.now }
+        requires ready { IsReadyToSearch search.now }
         requires there { HasPlace search.now.slots place.slot }
         requires walk { IsWalk search.now.slots self.old }
         requires ahead { IsAhead self.old place }
@@ -84,7 +84,7 @@ impl<'a> ClauseWalk<'a> {
 
     /// Gives the entry that stands here, which wasn't passed. After an error the walk is of no use.
     fn go_to(&mut self, search: &Search<'a>, place: Wanted) -> Result<Entry<'a>, AllocError>
-        requires ready { IsReady search.now }
+        requires ready { IsReadyToSearch search.now }
         requires there { (hit : ℕ × Placed) × IsHitAt search.now.slots place hit }
         requires walk { IsWalk search.now.slots self.old }
         requires ahead { IsAhead self.old place }
@@ -118,7 +118,7 @@ fn add<'a>(
     workspace: &mut Workspace<'a>,
     matches: &mut Matches<'a>,
 ) -> Result<(), AllocError>
-    requires ready { IsReady search.now }
+    requires ready { IsReadyToSearch search.now }
     requires query { query.now ≡ search.now.query.flat }
     requires walk { IsWalk search.now.slots walk.now }
     requires known { IsKnownEntry (numbers_of search.now) (entry_of entry) }
@@ -126,7 +126,7 @@ fn add<'a>(
     requires leaf { IsOfLeaf search.now matches.old.leaves.items leaf (entry_of entry) }
     requires made { AreMade search.now matches.old.leaves.items }
     requires each { AreMatches search.now matches.old }
-    ensures adds { OnOk result (Adds search.now (
+    ensures adds { OnOk result (AddsHit search.now (
       walk.now.position,
       record {
         entry = entry_of entry.entry;
@@ -162,7 +162,7 @@ fn make_list<'a>(
     leaf: usize,
     entry: Entry<'a>,
 ) -> Result<(), AllocError>
-    requires ready { IsReady search.now }
+    requires ready { IsReadyToSearch search.now }
     requires query { query.now ≡ search.now.query.flat }
     requires known { IsKnownEntry (numbers_of search.now) (entry_of entry) }
     requires stands { Stands search.now.relation (pattern_in search.now) (entry_of entry) }
@@ -186,7 +186,7 @@ pub(crate) fn gather<'a>(
     places: &[Wanted],
     leaves: Vec<Leaf>,
 ) -> Result<Matches<'a>, AllocError>
-    requires ready { IsReady search.now }
+    requires ready { IsReadyToSearch search.now }
     requires unmade { AreUnmade leaves.items }
     requires stand { AllByRecursion (IsStandingAt search.now leaves.items) places.now }
     requires rise { Rise places.now }

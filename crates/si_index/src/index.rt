@@ -81,9 +81,9 @@ impl Model for Index {
       trees = i.trees;
     } };
 
-    ghost use Rattle.si_index.specs.Stored.{IsKept, AreHeld, HaveRows};
+    ghost use Rattle.si_index.specs.Stored.{IsKeptIndex, AreHeld, HaveRows};
 
-    ghost invariant = { λ i. IsKept (limited_to i.limit) i.clauses.items i.register
+    ghost invariant = { λ i. IsKeptIndex (limited_to i.limit) i.clauses.items i.register
         × AreHeld i.clauses.items i.register i.trees
         × HaveRows (numbering i.register.signature) i.clauses.items i.clauses.marks };
 }

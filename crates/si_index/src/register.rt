@@ -10,7 +10,7 @@ ghost use Rattle.si_state.specs.Signatures.{IsSignature, uses_of, known_symbols}
 ghost use Rattle.si_term.specs.Meaning.{clause_of};
 ghost use Rattle.si_sign.specs.declared.uses.TheConstants.{MOST_USES};
 ghost use Rattle.si_index.specs.Names.{key_of_name, AreNamed};
-ghost use Rattle.si_index.specs.Register.{Admits, Enters, Uncounts, Leaves, IsSameRegister, Bars};
+ghost use Rattle.si_index.specs.Register.{Admits, CountsClause, Uncounts, StrikesOut, IsSameRegister, Bars};
 
 use crate::names::ClauseNames;
 use si_keyed::KeyedList;
@@ -60,7 +60,7 @@ impl Register {
         requires few { length (entries (clause_of clause.now)) ≤ MOST_OCCURRENCES }
         ensures admits { OnOk result (Admits limit clauses.now.items self.old
             (clause_of clause.now)) }
-        ensures enters { OnOk result (Enters (clause_of clause.now) self.old self.new) }
+        ensures enters { OnOk result (CountsClause (clause_of clause.now) self.old self.new) }
         ensures number { IfOk result (λ n. n ≡ length (entries (clause_of clause.now))) }
         ensures why { IfErr result (Bars limit clauses.now.items self.old (clause_of clause.now)) }
         ensures err { OnErr result (IsSameRegister clauses.now.items self.old self.new) }
@@ -107,7 +107,7 @@ impl Register {
             ≤ uses_of self.old.signature s }
         requires counted { length (entries (clause_of gone.now)) ≤ self.old.entries }
         requires few { length (entries (clause_of gone.now)) ≤ MOST_OCCURRENCES }
-        ensures leaves { Leaves (clause_of gone.now) key self.old self.new }
+        ensures leaves { StrikesOut (clause_of gone.now) key self.old self.new }
         ensures number { result ≡ length (entries (clause_of gone.now)) }
     {
         self.names.remove(&gone.name, key);

@@ -2,7 +2,7 @@
 ghost use Rattle.std.specs.Prelude.{◌≡◌, IfOk};
 ghost use Rattle.si_term.specs.Meaning.{entry_of};
 ghost use Rattle.si_state.specs.Answers.{Stands};
-ghost use Rattle.si_index.specs.Searching.{numbers_of, pattern_in, term_in, IsReady, IsKnownEntry, SolvesTerm};
+ghost use Rattle.si_index.specs.Searching.{numbers_of, pattern_in, term_in, IsReadyToSearch, IsKnownEntry, SolvesTerm};
 
 use crate::index::Index;
 use si_defs::Relation;
@@ -57,7 +57,7 @@ impl<'a> Search<'a> {
         workspace: &mut Workspace<'a>,
         entry: Entry<'a>,
     ) -> Result<Solution, AllocError>
-        requires ready { IsReady self.now }
+        requires ready { IsReadyToSearch self.now }
         requires query { query.now ≡ self.now.query.flat }
         requires known { IsKnownEntry (numbers_of self.now) (entry_of entry) }
         requires stands { Stands self.now.relation (pattern_in self.now) (entry_of entry) }

@@ -16,7 +16,7 @@ use Rattle.si_legal.proofs.Splitting.{indicators_all, indicators-more}
 use Rattle.si_unify.proofs.Rows.{sound-join, count-join, substitute-join, count-substitute, join_injective}
 use Rattle.si_insert.specs.declared.open.Opened.{Opened}
 use Rattle.si_insert.specs.Opened.{numbers, term_at}
-use Rattle.si_insert.specs.Fitting.{Fits, all_pairs, OpensFor}
+use Rattle.si_insert.specs.Fitting.{FitsTerm, all_pairs, OpensFor}
 
 abbrev pub images : List Binding → Variable → Term
 images bs = image same_variable (substitution_of bs)
@@ -61,7 +61,7 @@ pub record Remains (cells : List Cell) (t u : Term) (old now : List Opened) (ts 
   pub other_sound : AreSound us
   pub counts : terms.count ts ≡ terms.count us
   pub distinct : AreDistinct (numbers now ++ indicators_all ts)
-  pub gives : (bs : List Binding) → left_sides bs ≡ indicators_all ts → applied_all bs ts ≡ us → Fits (found ++ bs) t u
+  pub gives : (bs : List Binding) → left_sides bs ≡ indicators_all ts → applied_all bs ts ≡ us → FitsTerm (found ++ bs) t u
   pub given : (bs : List Binding) → applied bs t ≡ u → applied_all bs ts ≡ us
 
 pub record LeftToFit (node cells : List Cell) (place : ℕ) (t u : Term) (old now : List Opened) : Type 0 where
@@ -104,7 +104,7 @@ indicator_passed cells t u b ts us old now n place there within r =
       distinct = subst AreDistinct (sym (ap (λ l. l ++ indicators_all ts) (map-append (λ p. p.indicator) now (opened_at n place ∷ [])) ∙ append_assoc (numbers now) (n ∷ []) (indicators_all ts))) r.distinct;
       gives = λ bs lefts gives.
           subst
-          (λ l. Fits l t u)
+          (λ l. FitsTerm l t u)
           (sym (append_assoc r.found ((n, b) ∷ []) bs))
           (r.gives ((n, b) ∷ bs) (ap (λ l. n ∷ l) lefts) (λ i. terms.more (image_here n b bs i) ((none_there n b ts bs apart.1.0 ∙ gives) i)));
       given = λ bs e. (same_more _ _ _ _ (r.given bs e)).1;

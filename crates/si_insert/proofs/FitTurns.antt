@@ -20,7 +20,7 @@ use Rattle.si_mscg.specs.Generalising.{same_head_cell}
 use Rattle.si_unify.proofs.Rows.{cells-join}
 use Rattle.si_insert.specs.declared.open.Opened.{Opened}
 use Rattle.si_insert.specs.Opened.{numbers, term_at}
-use Rattle.si_insert.specs.Fitting.{Fits, OpensFitting}
+use Rattle.si_insert.specs.Fitting.{FitsTerm, OpensFitting}
 use Rattle.si_insert.proofs.FitLaws.{images, opened_at, Remains, LeftToFit, indicator_passed, variable_passed, symbol_passed}
 
 -- ---- the first cell of a term
@@ -212,7 +212,7 @@ all_fits cells place t u old now l = by l.ts l.us (without_cells l.ts (sym l.nod
   by : (ts us : Terms) → ts ≡ terms.none → Remains cells t u old now ts us → OpensFitting cells old now t u
   by terms.none terms.none e r = record {
     bindings = r.found;
-    fits = subst (λ bs. Fits bs t u) (append-nil r.found) (r.gives [] refl refl);
+    fits = subst (λ bs. FitsTerm bs t u) (append-nil r.found) (r.gives [] refl refl);
     opens = r.opens;
   }
   by terms.none (terms.more u us) e r = absurd (omega (arith, r.counts))

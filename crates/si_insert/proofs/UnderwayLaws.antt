@@ -24,7 +24,7 @@ use Rattle.si_changes.proofs.OpenLaws.{open_opened}
 use Rattle.si_changes.proofs.NewLeaves.{counted}
 use Rattle.si_insert.specs.declared.open.Opened.{Opened}
 use Rattle.si_insert.specs.Passing.{without, MayPass, Passes}
-use Rattle.si_insert.specs.Underway.{IsUnderway, Holds}
+use Rattle.si_insert.specs.Underway.{IsUnderway, HoldsOpened}
 use Rattle.si_insert.proofs.StepLaws.{gives_after, binds_after}
 
 -- ---- the start
@@ -40,7 +40,7 @@ underway_at_root tree t legal =
       gives = ap (applied ((0, t) ∷ [])) term;
     }
 
-pub holds_at_root : (tree : Tree Term) (cells : List Cell) (t : Term) (legal : IsLegal tree) → StandsFor cells t → Holds cells (record { indicator = 0; at = 0; bound = false } ∷ []) ((tree.root, legal.root.0) ∷ []) ((0, t) ∷ [])
+pub holds_at_root : (tree : Tree Term) (cells : List Cell) (t : Term) (legal : IsLegal tree) → StandsFor cells t → HoldsOpened cells (record { indicator = 0; at = 0; bound = false } ∷ []) ((tree.root, legal.root.0) ∷ []) ((0, t) ∷ [])
 holds_at_root tree cells t legal stands = record {
   stand = (refl, subst (λ l. StandsFor l t) (sym (ap (λ l. take (first_span l) l) whole ∙ first_taken (cells_of t) [] (t, record { cells_are = refl; sound = stands.sound }) ∙ sym stands.cells_are)) stands, tt);
   within = (omega (arith, ap length stands.cells_are, cells_some t), tt);
@@ -54,7 +54,7 @@ holds_at_root tree cells t legal stands = record {
 pub child_path : (tree : Tree Term) (key child : ℕ) (node : Node Term) (path : Path) → IsLegal tree → IsPath tree (Some key) path → HasNode tree child node → node.parent ≡ Some key → (legal : IsLegalNode tree child node) → legal.above ≡ path
 child_path tree key child node path legal reached has below h = one_path tree (Some key) h.above path (subst (λ k. IsPath tree k h.above) below h.reached) reached
 
-pub may_pass : (tree : Tree Term) (key child : ℕ) (node : Node Term) (path : Path) (t : Term) (there : List Binding) (cells : List Cell) (all : List Opened) (pairs : List CellPair) → IsLegal tree → IsUnderway tree key t path there → Holds cells all path there → HasNode tree child node → node.parent ≡ Some key → StandForBindings pairs node.bindings → MayPass cells all pairs there node.bindings
+pub may_pass : (tree : Tree Term) (key child : ℕ) (node : Node Term) (path : Path) (t : Term) (there : List Binding) (cells : List Cell) (all : List Opened) (pairs : List CellPair) → IsLegal tree → IsUnderway tree key t path there → HoldsOpened cells all path there → HasNode tree child node → node.parent ≡ Some key → StandForBindings pairs node.bindings → MayPass cells all pairs there node.bindings
 may_pass tree key child node path t there cells all pairs legal u h has below stand =
     let k = legal.nodes child node has in
     let same = child_path tree key child node path legal u.reached has below k in
@@ -69,9 +69,9 @@ may_pass tree key child node path t there cells all pairs legal u h has below st
 pub record Step (tree : Tree Term) (child : ℕ) (node : Node Term) (path : Path) (t : Term) (cells : List Cell) (new : List Opened) : Type 0 where
   pub there : List Binding
   pub underway : IsUnderway tree child t ((child, node) ∷ path) there
-  pub holds : Holds cells new ((child, node) ∷ path) there
+  pub holds : HoldsOpened cells new ((child, node) ∷ path) there
 
-pub stepped : (tree : Tree Term) (key child : ℕ) (node : Node Term) (path : Path) (t : Term) (there fs : List Binding) (cells : List Cell) (all new : List Opened) → IsLegal tree → IsUnderway tree key t path there → Holds cells all path there → HasNode tree child node → node.parent ≡ Some key → Passes cells all new there node.bindings fs → Step tree child node path t cells new
+pub stepped : (tree : Tree Term) (key child : ℕ) (node : Node Term) (path : Path) (t : Term) (there fs : List Binding) (cells : List Cell) (all new : List Opened) → IsLegal tree → IsUnderway tree key t path there → HoldsOpened cells all path there → HasNode tree child node → node.parent ≡ Some key → Passes cells all new there node.bindings fs → Step tree child node path t cells new
 stepped tree key child node path t there fs cells all new legal u h has below passes =
     let k = legal.nodes child node has in
     let same = child_path tree key child node path legal u.reached has below k in

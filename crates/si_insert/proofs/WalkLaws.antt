@@ -16,7 +16,7 @@ use Rattle.si_tree.specs.declared.node.Head.{Head}
 use Rattle.si_tree.specs.Heads.{HasHead, IsChildBy}
 use Rattle.si_insert.specs.declared.open.Opened.{Opened}
 use Rattle.si_insert.specs.Passing.{Passes}
-use Rattle.si_insert.specs.Underway.{IsUnderway, Holds}
+use Rattle.si_insert.specs.Underway.{IsUnderway, HoldsOpened}
 use Rattle.si_insert.proofs.UnderwayLaws.{underway_at_root, holds_at_root, stepped}
 
 -- ---- a path, found from its end
@@ -44,7 +44,7 @@ pub record Walk (tree : Tree Term) (cells : List Cell) (t : Term) (key : ℕ) (a
   pub path : Path
   pub there : List Binding
   pub underway : IsUnderway tree key t path there
-  pub holds : Holds cells all path there
+  pub holds : HoldsOpened cells all path there
   pub long : length path ≤ 1 + weight (path_term path)
 
 pub walk_start : (tree : Tree Term) (cells : List Cell) (t : Term) (all : List Opened) → IsLegal tree → StandsFor cells t → all ≡ record { indicator = 0; at = 0; bound = false } ∷ [] → Walk tree cells t tree.root all
@@ -52,7 +52,7 @@ walk_start tree cells t all legal stands e = record {
   path = (tree.root, legal.root.0) ∷ [];
   there = (0, t) ∷ [];
   underway = underway_at_root tree t legal;
-  holds = subst (λ l. Holds cells l ((tree.root, legal.root.0) ∷ []) ((0, t) ∷ [])) (sym e) (holds_at_root tree cells t legal stands);
+  holds = subst (λ l. HoldsOpened cells l ((tree.root, legal.root.0) ∷ []) ((0, t) ∷ [])) (sym e) (holds_at_root tree cells t legal stands);
   long = omega arith;
 }
 

@@ -9,7 +9,7 @@ use Rattle.si_legal.specs.Bindings.{Binding, indicators, applied, StandForBindin
 use Rattle.si_insert.specs.declared.open.Opened.{Opened}
 use Rattle.si_insert.specs.Opened.{numbers, term_at, AreWithin}
 
-pub record Fits (bs : List Binding) (t u : Term) : Type 0 where
+pub record FitsTerm (bs : List Binding) (t u : Term) : Type 0 where
   pub lefts : left_sides bs ≡ indicators t
   pub gives : applied bs t ≡ u
 
@@ -27,7 +27,7 @@ pub record OpensFor (cells : List Cell) (old new : List Opened) (bs : List Bindi
 
 pub record OpensFitting (cells : List Cell) (old new : List Opened) (t u : Term) : Type 0 where
   pub bindings : List Binding
-  pub fits : Fits bindings t u
+  pub fits : FitsTerm bindings t u
   pub opens : OpensFor cells old new bindings
 
 -- ---- a right side, and the term at a place

@@ -16,7 +16,7 @@ pub record IsUnderway (tree : Tree Term) (key : ℕ) (t : Term) (path : Path) (t
   pub gives : applied there (path_term path) ≡ t
 
 -- what was opened on the path, with what isn't bound
-pub record Holds (cells : List Cell) (all : List Opened) (path : Path) (there : List Binding)
+pub record HoldsOpened (cells : List Cell) (all : List Opened) (path : Path) (there : List Binding)
     : Type 0 where
   pub stand : StandForBindings (open_pairs cells all) there
   pub within : AreWithin cells all

@@ -11,7 +11,7 @@ use Rattle.si_legal.specs.Bindings.{Binding, indicator}
 use Rattle.si_legal.specs.Trees.{Tree, Path, PassesBy, IsLeaf}
 
 -- the posting stands in a leaf at this node or below it, whose term is in the relation to the query
-pub record IsAnswer (tree : Tree Term) (top : ℕ) (relation : Relation) (q : Term)
+pub record IsAnswerBelow (tree : Tree Term) (top : ℕ) (relation : Relation) (q : Term)
     (p : Posting) : Type 0 where
   pub key : ℕ
   pub term : Term

@@ -1,6 +1,6 @@
 -- Open brackets as a number.
 use Rattle.std.proofs.Common.{◌≡◌, ℕ, zero, suc, ◌+◌, ◌*◌, ◌/◌, ◌%◌, ◌<◌, ◌≤◌, [], ◌∷◌, length, refl, ap, sym, ◌∙◌, arith}
-use Rattle.si_lex.specs.OpenBrackets.{bracket_of, brackets_from, brackets_in}
+use Rattle.si_lex.specs.OpenBrackets.{bracket_of_digit, brackets_from, brackets_in}
 
 abbrev two_to : ℕ → ℕ
 two_to zero = 1
@@ -12,7 +12,7 @@ same_from zero zero h = refl
 same_from zero (suc n) h = absurd (omega (arith, h))
 same_from (suc k) zero h = refl
 same_from (suc k) (suc zero) h = refl
-same_from (suc k) (suc (suc n)) h = ap (λ bs. bracket_of (n % 2) ∷ bs) (same_from k (suc (n / 2)) (omega (arith, h)))
+same_from (suc k) (suc (suc n)) h = ap (λ bs. bracket_of_digit (n % 2) ∷ bs) (same_from k (suc (n / 2)) (omega (arith, h)))
 
 few_from : (k n : ℕ) → length (brackets_from k n) ≤ k
 few_from zero n = omega arith
@@ -24,23 +24,23 @@ pub few : (n : ℕ) → length (brackets_in n) ≤ 64
 few n = few_from 64 n
 
 -- the last digit is the last bracket
-pub last_digit : (n : ℕ) → n < 18446744073709551616 → 2 ≤ n → brackets_in n ≡ bracket_of (n % 2) ∷ brackets_in (n / 2)
+pub last_digit : (n : ℕ) → n < 18446744073709551616 → 2 ≤ n → brackets_in n ≡ bracket_of_digit (n % 2) ∷ brackets_in (n / 2)
 last_digit zero s h = absurd (omega (arith, h))
 last_digit (suc zero) s h = absurd (omega (arith, h))
 last_digit (suc (suc n)) s h =
     let digit : n % 2 ≡ suc (suc n) % 2 = omega arith in
     let others : suc (n / 2) ≡ suc (suc n) / 2 = omega arith in
     let small : suc (suc n) / 2 < two_to 63 = omega (arith, s) in
-    ap (λ d. bracket_of d ∷ brackets_from 63 (suc (n / 2))) digit
-    ∙ ap (λ k. bracket_of (suc (suc n) % 2) ∷ brackets_from 63 k) others
-    ∙ ap (λ bs. bracket_of (suc (suc n) % 2) ∷ bs) (sym (same_from 63 (suc (suc n) / 2) small))
+    ap (λ d. bracket_of_digit d ∷ brackets_from 63 (suc (n / 2))) digit
+    ∙ ap (λ k. bracket_of_digit (suc (suc n) % 2) ∷ brackets_from 63 k) others
+    ∙ ap (λ bs. bracket_of_digit (suc (suc n) % 2) ∷ bs) (sym (same_from 63 (suc (suc n) / 2) small))
 
-pub one_digit_more : (n digit : ℕ) → 1 ≤ n → digit < 2 → n * 2 + digit < 18446744073709551616 → brackets_in (n * 2 + digit) ≡ bracket_of digit ∷ brackets_in n
+pub one_digit_more : (n digit : ℕ) → 1 ≤ n → digit < 2 → n * 2 + digit < 18446744073709551616 → brackets_in (n * 2 + digit) ≡ bracket_of_digit digit ∷ brackets_in n
 one_digit_more n digit some d s =
     let last : (n * 2 + digit) % 2 ≡ digit = omega (arith, d) in
     let others : (n * 2 + digit) / 2 ≡ n = omega (arith, d) in
-    last_digit (n * 2 + digit) s (omega (arith, some)) ∙ ap (λ k. bracket_of k ∷ brackets_in ((n * 2 + digit) / 2)) last
-    ∙ ap (λ k. bracket_of digit ∷ brackets_in k) others
+    last_digit (n * 2 + digit) s (omega (arith, some)) ∙ ap (λ k. bracket_of_digit k ∷ brackets_in ((n * 2 + digit) / 2)) last
+    ∙ ap (λ k. bracket_of_digit digit ∷ brackets_in k) others
 
 pub none_of_one : (n : ℕ) → n < 18446744073709551616 → 1 ≤ n → brackets_in n ≡ [] → n ≡ 1
 none_of_one zero s h e = absurd (omega (arith, h))

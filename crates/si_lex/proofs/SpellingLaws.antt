@@ -9,7 +9,7 @@ use Rattle.si_defs.specs.Tokens.{Spells, is_mark, escaped, quoted}
 use Rattle.si_defs.specs.declared.TokenKind.{TokenKind}
 use Rattle.si_defs.specs.declared.TokenKind.TheVariants.{Lower, Upper, Dollar, Int, Single, Double, NotEqual, Mark}
 use Rattle.si_defs.proofs.TokenLaws.{decimal_digit}
-use Rattle.si_lex.specs.Texts.{unescaped_behind, unescaped, inside, text_of}
+use Rattle.si_lex.specs.Texts.{unescaped_behind, unescaped, between_ends, text_of}
 
 -- what holds of each of a list of bytes holds of one that is among them
 pub of_listed : (q : ℕ → Bool) (c : ℕ) (ms : List ℕ) → list_any (λ m. m == c) ms ≡ true → list_all q ms ≡ true → q c ≡ true
@@ -172,13 +172,13 @@ unescaped-escaped quote [] = refl
 unescaped-escaped quote (c ∷ cs) = unescaped_one quote c (flat_map (escaped quote) cs) ∙ ap (λ t. c ∷ t) (unescaped-escaped quote cs)
 
 -- what stands between quotes
-pub inside-quoted : (quote : ℕ) (inner : Bytes) → inside (quote ∷ inner ++ quote ∷ []) ≡ inner
+pub inside-quoted : (quote : ℕ) (inner : Bytes) → between_ends (quote ∷ inner ++ quote ∷ []) ≡ inner
 inside-quoted quote inner =
     let e = length-append inner (quote ∷ []) in
     let n : length (quote ∷ inner ++ quote ∷ []) - 2 ≡ length inner = omega arith in
     rw n (take_at inner (quote ∷ []) (length inner) refl)
 
-pub text_of-quoted : (quote : ℕ) (text : Bytes) → unescaped (inside (quoted quote text)) ≡ text
+pub text_of-quoted : (quote : ℕ) (text : Bytes) → unescaped (between_ends (quoted quote text)) ≡ text
 text_of-quoted quote text = ap unescaped (inside-quoted quote (flat_map (escaped quote) text)) ∙ unescaped-escaped quote text
 
 pub text_of-spelling : (kind : TokenKind) (text bytes : Bytes) → Spells kind text bytes → text_of kind bytes ≡ text

@@ -15,11 +15,11 @@ abbrev pub unescaped : Bytes → Bytes
 unescaped bytes = unescaped_behind false bytes
 
 -- what stands between the first byte and the last
-abbrev pub inside : Bytes → Bytes
-inside bytes = take (length bytes - 2) (drop 1 bytes)
+abbrev pub between_ends : Bytes → Bytes
+between_ends bytes = take (length bytes - 2) (drop 1 bytes)
 
 -- the text that a spelling has in a token of this kind
 abbrev pub text_of : TokenKind → Bytes → Bytes
-text_of Single spelling = unescaped (inside spelling)
-text_of Double spelling = unescaped (inside spelling)
+text_of Single spelling = unescaped (between_ends spelling)
+text_of Double spelling = unescaped (between_ends spelling)
 text_of kind spelling = spelling

@@ -2,7 +2,7 @@
 ghost use Rattle.std.specs.Prelude.{◌≡◌, ◌≤◌, ◌<◌, ◌↔◌, Some, [], ◌∷◌, length, IfSome, IsTrue};
 ghost use Rattle.si_defs.specs.Grammar.{brackets_behind};
 ghost use Rattle.si_defs.specs.Tokens.{mark};
-ghost use Rattle.si_lex.specs.OpenBrackets.{bracket_of};
+ghost use Rattle.si_lex.specs.OpenBrackets.{bracket_of_digit};
 
 use std::marker::Model;
 
@@ -69,7 +69,7 @@ impl OpenBrackets {
     #[inline(always)]
     fn opened(self, digit: u64) -> Option<OpenBrackets>
         requires { digit < 2 }
-        ensures more { IfSome result (λ more. more ≡ bracket_of digit ∷ self) }
+        ensures more { IfSome result (λ more. more ≡ bracket_of_digit digit ∷ self) }
         ensures few { IfSome result (λ more. length more ≤ 64) }
     {
         let twice = self.digits.checked_mul(2)?;
@@ -81,7 +81,7 @@ impl OpenBrackets {
     // These without the last one. Nothing where that isn't the one with this digit.
     #[inline(always)]
     fn closed(self, digit: u64) -> Option<OpenBrackets>
-        ensures last { IfSome result (λ others. self ≡ bracket_of digit ∷ others) }
+        ensures last { IfSome result (λ others. self ≡ bracket_of_digit digit ∷ others) }
         ensures few { IfSome result (λ others. length others ≤ 64) }
     {
         if self.digits == 1 || self.digits % 2 != digit {

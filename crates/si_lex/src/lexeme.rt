@@ -2,7 +2,7 @@
 ghost use Rattle.std.specs.Prelude.{◌≡◌, ◌↔◌, IsTrue, IfOk};
 ghost use Rattle.si_defs.specs.Tokens.{lower, mark};
 ghost use Rattle.si_lex.specs.Lexemes.{token_of};
-ghost use Rattle.si_lex.specs.Texts.{inside, unescaped};
+ghost use Rattle.si_lex.specs.Texts.{between_ends, unescaped};
 
 use si_defs::TokenKind;
 use si_term::Text;
@@ -57,7 +57,7 @@ impl<'a> Lexeme<'a> {
 // The text of a spelling in quotes. Without a backslash it is copied in one piece.
 #[inline(never)]
 fn unquoted(alloc: Global, spelling: &[u8]) -> Result<Text, AllocError>
-    ensures { IfOk result (λ text. text ≡ unescaped (inside spelling.now)) }
+    ensures { IfOk result (λ text. text ≡ unescaped (between_ends spelling.now)) }
 {
     match spelling {
         [_, inner @ .., _] if inner.contains(&b'\\') => without_escapes(alloc, inner),

@@ -8,7 +8,7 @@ use Rattle.si_flat.specs.Cells.{Term, cells_of, cells_of_all, IsWhole, join}
 use Rattle.si_flat.proofs.Subterms.{length-cells_of_all}
 use Rattle.si_unify.proofs.Rows.{cells-join, sound-join, count-join}
 use Rattle.si_measure.specs.Rows.{Arguments, AreArguments, with_argument, under_symbol}
-use Rattle.si_measure.specs.Systems.{Equation, twice, with_terms, Adds}
+use Rattle.si_measure.specs.Systems.{Equation, twice, with_terms, AddsEquations}
 use Rattle.si_measure.specs.declared.towers.Sides.{Sides}
 
 -- ---- arguments
@@ -71,13 +71,13 @@ twice_under t cells all e h =
     (ap (λ l. arguments (cells_of t ++ l) 2) (sym (append-nil (cells_of t))))
 
 -- ---- equations
-pub adds_none : (s : Sides) → Adds s s []
+pub adds_none : (s : Sides) → AddsEquations s s []
 adds_none s = record { left = with_none s.left; right = with_none s.right }
 
-pub adds_one : (old new : Sides) (e : Equation) → new.left ≡ with_argument old.left (cells_of e.left) → new.right ≡ with_argument old.right (cells_of e.right) → Adds old new (e ∷ [])
+pub adds_one : (old new : Sides) (e : Equation) → new.left ≡ with_argument old.left (cells_of e.left) → new.right ≡ with_argument old.right (cells_of e.right) → AddsEquations old new (e ∷ [])
 adds_one old new e l r = record { left = l ∙ with_one old.left e.left; right = r ∙ with_one old.right e.right }
 
-pub adds_then : (a b c : Sides) (es fs : List Equation) → Adds a b es → Adds b c fs → Adds a c (es ++ fs)
+pub adds_then : (a b c : Sides) (es fs : List Equation) → AddsEquations a b es → AddsEquations b c fs → AddsEquations a c (es ++ fs)
 adds_then a b c es fs h k = record {
   left =
       k.left ∙ ap (λ o. with_terms o (map (λ e. e.left) fs)) h.left

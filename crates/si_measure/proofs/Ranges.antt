@@ -9,7 +9,7 @@ use Rattle.si_flat.specs.declared.Owner.TheVariants.{Query, Entry}
 use Rattle.si_flat.specs.Cells.{Term, cells_of, cells_of_all}
 use Rattle.si_unify.specs.declared.slots.Slots.{Slots}
 use Rattle.si_unify.specs.Solving.{CellIsInRange, AreInRange}
-use Rattle.si_measure.specs.Systems.{Equation, variable, doubled, tower, two_towers, equations_of, AreSides}
+use Rattle.si_measure.specs.Systems.{Equation, variable, doubled, tower, two_towers, equations_of, AreEquationSides}
 use Rattle.si_measure.specs.Answers.{slots_for, HaveSlots}
 use Rattle.si_measure.specs.declared.measurement.Shape.{Shape}
 use Rattle.si_measure.specs.declared.measurement.Shape.TheVariants.{One, Both, Shifted}
@@ -68,7 +68,7 @@ module _ (m : ℕ) where
   rights_ranged [] h = tt
   rights_ranged (e ∷ es) h = (h.0.1, rights_ranged es h.1)
 
-pub sides_have_slots : (shape : Shape) (n : ℕ) (left right : List Cell) → AreSides (equations_of shape n) left right → HaveSlots (slots_for (n + 1)) left right
+pub sides_have_slots : (shape : Shape) (n : ℕ) (left right : List Cell) → AreEquationSides (equations_of shape n) left right → HaveSlots (slots_for (n + 1)) left right
 sides_have_slots shape n left right sides =
     let es = equations_of shape n in
     let slots = slots_for (n + 1) in

@@ -4,7 +4,7 @@ use Rattle.si_flat.specs.declared.Cell.{Cell}
 use Rattle.si_flat.specs.Cells.{IsWhole}
 use Rattle.si_unify.specs.declared.slots.Slots.{Slots}
 use Rattle.si_unify.specs.Solving.{Pairs, AreInRange, HaveCommon, HasSolved}
-use Rattle.si_measure.specs.Systems.{equations_of, AreSides}
+use Rattle.si_measure.specs.Systems.{equations_of, AreEquationSides}
 use Rattle.si_measure.specs.declared.solving.Measured.{Measured}
 use Rattle.si_measure.specs.declared.measurement.Shape.{Shape}
 
@@ -30,7 +30,7 @@ Tells slots left right (Some n) = AreSolvedBy slots left right n
 Tells slots left right None = HaveSlots slots left right → HaveCommon slots [] left right → ⊥
 
 -- the numbers of cells of two terms of so many variables each, and the answer to them
-pub record Solves (n : ℕ) (left right : List Cell) (measured : Measured) : Type 0 where
+pub record SolvesCells (n : ℕ) (left right : List Cell) (measured : Measured) : Type 0 where
   pub left_cells : measured.left ≡ length left
   pub right_cells : measured.right ≡ length right
   pub tells : Tells (slots_for n) left right measured.bindings
@@ -39,9 +39,9 @@ pub record Solves (n : ℕ) (left right : List Cell) (measured : Measured) : Typ
 pub record SolvesShape (shape : Shape) (n : ℕ) (measured : Measured) : Type 0 where
   pub left : List Cell
   pub right : List Cell
-  pub sides : AreSides (equations_of shape n) left right
+  pub sides : AreEquationSides (equations_of shape n) left right
   pub slots : HaveSlots (slots_for (n + 1)) left right
-  pub solves : Solves (n + 1) left right measured
+  pub solves : SolvesCells (n + 1) left right measured
 
 -- two terms were solved
 pub record SolvesTerms (measured : Measured) : Type 0 where
@@ -50,4 +50,4 @@ pub record SolvesTerms (measured : Measured) : Type 0 where
   pub right : List Cell
   pub left_whole : IsWhole left
   pub right_whole : IsWhole right
-  pub solves : Solves variables left right measured
+  pub solves : SolvesCells variables left right measured

@@ -50,7 +50,7 @@ abbrev pub all_under : List Term → Term
 all_under ts = terms.app (record { number = 0; arity = length ts }) (terms.row ts)
 
 -- the cells are those of h of the left sides, and of h of the right sides
-pub record AreSides (equations : List Equation) (left right : List Cell) : Type 0 where
+pub record AreEquationSides (equations : List Equation) (left right : List Cell) : Type 0 where
   pub lefts : left ≡ cells_of (all_under (map (λ e. e.left) equations))
   pub rights : right ≡ cells_of (all_under (map (λ e. e.right) equations))
 
@@ -64,6 +64,6 @@ with_terms arguments ts =
     }
 
 -- the sides of the equations come after the others
-pub record Adds (old new : Sides) (equations : List Equation) : Type 0 where
+pub record AddsEquations (old new : Sides) (equations : List Equation) : Type 0 where
   pub left : new.left ≡ with_terms old.left (map (λ e. e.left) equations)
   pub right : new.right ≡ with_terms old.right (map (λ e. e.right) equations)

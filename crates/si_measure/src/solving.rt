@@ -2,7 +2,7 @@
 ghost use Rattle.std.specs.Prelude.{◌≡◌, ◌≤◌, [], IfOk};
 ghost use Rattle.si_flat.specs.Cells.{IsWhole};
 ghost use Rattle.si_unify.specs.Solving.{AreInRange, slot_count};
-ghost use Rattle.si_measure.specs.Answers.{Solves, Tells};
+ghost use Rattle.si_measure.specs.Answers.{SolvesCells, Tells};
 
 use si_flat::{Cell, Flat};
 use si_trail::Trail;
@@ -30,7 +30,7 @@ pub(crate) fn solve_often(
     right: &Flat,
     times: u32,
 ) -> Result<Measured, AllocError>
-    ensures { IfOk result (Solves variables left.now right.now) }
+    ensures { IfOk result (SolvesCells variables left.now right.now) }
 {
     let left = left.cells();
     let right = right.cells();

@@ -2,7 +2,7 @@
 ghost use Rattle.std.specs.Prelude.{◌≡◌, ◌≤◌, IfOk, OnOk};
 ghost use Rattle.si_flat.specs.Cells.{cells_of};
 ghost use Rattle.si_measure.specs.Rows.{with_argument};
-ghost use Rattle.si_measure.specs.Systems.{variable as variable_term, doubled as doubled_term, tower, two_towers, equations_of, Adds};
+ghost use Rattle.si_measure.specs.Systems.{variable as variable_term, doubled as doubled_term, tower, two_towers, equations_of, AddsEquations};
 ghost use Rattle.si_measure.specs.Answers.{SolvesShape};
 
 use crate::measurement::{LARGEST, Shape};
@@ -52,7 +52,7 @@ pub(crate) fn measure(
 }
 
 fn put_shape(alloc: Global, sides: &mut Sides, shape: Shape, size: u32) -> Result<(), AllocError>
-    ensures { OnOk result (Adds sides.old sides.new (equations_of shape size)) }
+    ensures { OnOk result (AddsEquations sides.old sides.new (equations_of shape size)) }
 {
     match shape {
         Shape::One => put_tower(alloc, sides, Owner::Query, 1, size),
@@ -63,7 +63,7 @@ fn put_shape(alloc: Global, sides: &mut Sides, shape: Shape, size: u32) -> Resul
 
 fn put_two_towers(alloc: Global, sides: &mut Sides, steps: u32, size: u32) -> Result<(), AllocError>
     requires { 1 ≤ steps }
-    ensures { OnOk result (Adds sides.old sides.new (two_towers steps size)) }
+    ensures { OnOk result (AddsEquations sides.old sides.new (two_towers steps size)) }
 {
     put_tower(alloc, sides, Owner::Query, steps, size)?;
     put_tower(alloc, sides, Owner::Entry, steps, size)?;
@@ -80,7 +80,7 @@ fn put_tower(
     steps: u32,
     size: u32,
 ) -> Result<(), AllocError>
-    ensures { OnOk result (Adds sides.old sides.new (tower owner steps size)) }
+    ensures { OnOk result (AddsEquations sides.old sides.new (tower owner steps size)) }
 {
     for i in 0..size {
         let next = variable(alloc, owner, i + 1)?;

@@ -12,7 +12,7 @@ use Rattle.si_legal.specs.Bindings.{Binding, StandForBindings}
 use Rattle.si_legal.specs.Generalizations.{same_head, Sides, sides, agreeing, differing}
 use Rattle.si_legal.specs.Pieces.{pieces, piece, node_terms, new_terms, side_pairs, with_lefts, cut, common_of}
 use Rattle.si_unify.proofs.Reading.{one_term}
-use Rattle.si_mscg.specs.Walking.{State, cell_pairs, with_piece, with_whole, with_shared, with_differing, with_agreeing, HaveSides, MayEnd, MayShareSides, MaySharePair}
+use Rattle.si_mscg.specs.Walking.{PartsSoFar, cell_pairs, with_piece, with_whole, with_shared, with_differing, with_agreeing, HaveSides, MayEnd, MayShareSides, MaySharePair}
 use Rattle.si_mscg.specs.Generalising.{draft_of, IsDraft, respanned}
 use Rattle.si_mscg.proofs.SpanLaws.{length-draft_of, draft_done}
 use Rattle.si_mscg.proofs.PieceLaws.{fits, all_fit, sound_piece}
@@ -71,7 +71,7 @@ agrees_not s ss e = ap (λ b. cond b (s ∷ agreeing ss) (agreeing ss)) e
 
 -- ---- the first walk
 -- with these left whole
-abbrev left_whole : State → List Sides → State
+abbrev left_whole : PartsSoFar → List Sides → PartsSoFar
 left_whole s ds = record {
   draft = s.draft;
   common = s.common;
@@ -80,7 +80,7 @@ left_whole s ds = record {
   next = s.next;
 }
 
-pub left_none : (s : State) → s ≡ with_differing s []
+pub left_none : (s : PartsSoFar) → s ≡ with_differing s []
 left_none s = λ i. record {
   draft = s.draft;
   common = s.common;
@@ -89,10 +89,10 @@ left_none s = λ i. record {
   next = s.next;
 }
 
-pub left_same : (s : State) (d : Sides) (ss : List Sides) → same_head d.node d.new ≡ true → with_differing s ss ≡ with_differing s (d ∷ ss)
+pub left_same : (s : PartsSoFar) (d : Sides) (ss : List Sides) → same_head d.node d.new ≡ true → with_differing s ss ≡ with_differing s (d ∷ ss)
 left_same s d ss e = ap (left_whole s) (sym (differs_not d ss e))
 
-pub left_one : (s : State) (p q : CellPair) (t u : Term) (ss : List Sides) → StandsFor p.1 t → StandsFor q.1 u → same_head t u ≡ false → with_differing (with_whole s p q) ss ≡ with_differing s (record { left = p.0; node = t; new = u } ∷ ss)
+pub left_one : (s : PartsSoFar) (p q : CellPair) (t u : Term) (ss : List Sides) → StandsFor p.1 t → StandsFor q.1 u → same_head t u ≡ false → with_differing (with_whole s p q) ss ≡ with_differing s (record { left = p.0; node = t; new = u } ∷ ss)
 left_one s p q t u ss h k e =
     let d : Sides = record { left = p.0; node = t; new = u } in
     (λ i. record {
@@ -104,11 +104,11 @@ left_one s p q t u ss h k e =
     })
     ∙ ap (left_whole s) (sym (differs d ss e))
 
-pub record Unbound (s : State) (n : ℕ) : Type 0 where
+pub record Unbound (s : PartsSoFar) (n : ℕ) : Type 0 where
   pub node : IsAmong (left_sides s.node) n → ⊥
   pub new : IsAmong (left_sides s.new) n → ⊥
 
-pub left_unbound : (s end : State) (d : Sides) (ss : List Sides) → with_differing s (d ∷ ss) ≡ end → same_head d.node d.new ≡ false → MayEnd end → Unbound s d.left
+pub left_unbound : (s end : PartsSoFar) (d : Sides) (ss : List Sides) → with_differing s (d ∷ ss) ≡ end → same_head d.node d.new ≡ false → MayEnd end → Unbound s d.left
 left_unbound s end d ss is e may =
     let all : left_whole s (d ∷ differing ss) ≡ end = ap (left_whole s) (sym (differs d ss e)) ∙ is in
     record {
@@ -118,7 +118,7 @@ left_unbound s end d ss is e may =
 
 -- ---- the second walk
 -- with these split
-abbrev shared_all : State → List Sides → State
+abbrev shared_all : PartsSoFar → List Sides → PartsSoFar
 shared_all s some = record {
   draft = [];
   common = s.common ++ cell_pairs (with_lefts some (pieces s.next (node_terms some) (new_terms some)).common);
@@ -127,7 +127,7 @@ shared_all s some = record {
   next = (pieces s.next (node_terms some) (new_terms some)).next;
 }
 
-pub shared_none : (s : State) → s.draft ≡ [] → s ≡ with_agreeing s []
+pub shared_none : (s : PartsSoFar) → s.draft ≡ [] → s ≡ with_agreeing s []
 shared_none s empty = λ i. record {
   draft = empty i;
   common = sym (append-nil s.common) i;
@@ -136,10 +136,10 @@ shared_none s empty = λ i. record {
   next = s.next;
 }
 
-pub shared_other : (s : State) (d : Sides) (ss : List Sides) → same_head d.node d.new ≡ false → with_agreeing s ss ≡ with_agreeing s (d ∷ ss)
+pub shared_other : (s : PartsSoFar) (d : Sides) (ss : List Sides) → same_head d.node d.new ≡ false → with_agreeing s ss ≡ with_agreeing s (d ∷ ss)
 shared_other s d ss e = ap (shared_all s) (sym (agrees_not d ss e))
 
-pub shared_one : (s : State) (d : Sides) (ss : List Sides) → same_head d.node d.new ≡ true → with_agreeing (with_shared s d.left (piece s.next d.node d.new)) ss ≡ with_agreeing s (d ∷ ss)
+pub shared_one : (s : PartsSoFar) (d : Sides) (ss : List Sides) → same_head d.node d.new ≡ true → with_agreeing (with_shared s d.left (piece s.next d.node d.new)) ss ≡ with_agreeing s (d ∷ ss)
 shared_one s d ss e =
     let p = piece s.next d.node d.new in
     let rest = cut p.next ss in
@@ -157,18 +157,18 @@ distinct_front : (xs ys all : List CellPair) → xs ++ ys ≡ all → AreDistinc
 distinct_front xs ys all e distinct = (distinct_parts (left_sides xs) (left_sides ys) (subst AreDistinct (ap (λ l. left_sides l) (sym e) ∙ map-append (λ p. p.0) xs ys) distinct)).0
 
 -- the state that the second walk comes to
-pub record Goes (s end : State) (ss : List Sides) : Type 0 where
+pub record Goes (s end : PartsSoFar) (ss : List Sides) : Type 0 where
   pub empty : s.draft ≡ []
   pub short : AllByRecursion (λ b. terms.size b.node < 2 ^ 32) ss
   pub leads : with_agreeing s ss ≡ end
 
-pub goes_other : (s end : State) (d : Sides) (ss : List Sides) → same_head d.node d.new ≡ false → Goes s end (d ∷ ss) → Goes s end ss
+pub goes_other : (s end : PartsSoFar) (d : Sides) (ss : List Sides) → same_head d.node d.new ≡ false → Goes s end (d ∷ ss) → Goes s end ss
 goes_other s end d ss e h = record { empty = h.empty; short = h.short.1; leads = shared_other s d ss e ∙ h.leads }
 
-pub goes_on : (s end : State) (d : Sides) (ss : List Sides) → same_head d.node d.new ≡ true → Goes s end (d ∷ ss) → Goes (with_shared s d.left (piece s.next d.node d.new)) end ss
+pub goes_on : (s end : PartsSoFar) (d : Sides) (ss : List Sides) → same_head d.node d.new ≡ true → Goes s end (d ∷ ss) → Goes (with_shared s d.left (piece s.next d.node d.new)) end ss
 goes_on s end d ss e h = record { empty = refl; short = h.short.1; leads = shared_one s d ss e ∙ h.leads }
 
-may_share : (s end : State) (d : Sides) (ss : List Sides) → same_head d.node d.new ≡ true → AreDistinct (left_sides end.common) → MayEnd end → Goes s end (d ∷ ss) → MayShareSides s d.left d.node d.new
+may_share : (s end : PartsSoFar) (d : Sides) (ss : List Sides) → same_head d.node d.new ≡ true → AreDistinct (left_sides end.common) → MayEnd end → Goes s end (d ∷ ss) → MayShareSides s d.left d.node d.new
 may_share s end d ss e distinct may h =
     let p = piece s.next d.node d.new in
     let rest = cut p.next ss in
@@ -192,17 +192,17 @@ may_share s end d ss e distinct may h =
 same_sides : (P : Term → Term → Type 0) (p q : CellPair) (t u t' u' : Term) → StandsFor p.1 t → StandsFor q.1 u → StandsFor p.1 t' → StandsFor q.1 u' → P t u → P t' u'
 same_sides P p q t u t' u' h k h' k' x = subst (λ y. P t' y) (one_term q.1 u u' k k') (subst (λ y. P y u) (one_term p.1 t t' h h') x)
 
-pub may_share_pair : (s end : State) (p q : CellPair) (t u : Term) (ss : List Sides) → StandsFor p.1 t → StandsFor q.1 u → same_head t u ≡ true → AreDistinct (left_sides end.common) → MayEnd end → Goes s end (record { left = p.0; node = t; new = u } ∷ ss) → MaySharePair s p q
+pub may_share_pair : (s end : PartsSoFar) (p q : CellPair) (t u : Term) (ss : List Sides) → StandsFor p.1 t → StandsFor q.1 u → same_head t u ≡ true → AreDistinct (left_sides end.common) → MayEnd end → Goes s end (record { left = p.0; node = t; new = u } ∷ ss) → MaySharePair s p q
 may_share_pair s end p q t u ss h k e distinct may goes = λ t' u' h' k'. same_sides (λ x y. MayShareSides s p.0 x y) p q t u t' u' h k h' k' (may_share s end (record { left = p.0; node = t; new = u }) ss e distinct may goes)
 
 -- ---- one common right side
 -- what was drafted is the common part of the two
-pub record IsDrafted (s : State) (t : Term) : Type 0 where
+pub record IsDrafted (s : PartsSoFar) (t : Term) : Type 0 where
   pub draft : IsDraft s.draft
   pub short : length s.draft < 2 ^ 32
   pub done : StandsFor (respanned s.draft) t
 
-pub drafted : (s one : State) (left : ℕ) (t u : Term) → IsSound t → IsSound u → MayShareSides s left t u → one ≡ with_piece s (piece s.next t u) → IsDrafted one (piece s.next t u).common
+pub drafted : (s one : PartsSoFar) (left : ℕ) (t u : Term) → IsSound t → IsSound u → MayShareSides s left t u → one ≡ with_piece s (piece s.next t u) → IsDrafted one (piece s.next t u).common
 drafted s one left t u h k may e =
     let p = piece s.next t u in
     let is : one.draft ≡ draft_of p.common = ap (λ x. x.draft) e ∙ ap (λ l. l ++ draft_of p.common) may.empty in
@@ -214,7 +214,7 @@ drafted s one left t u h k may e =
       done = draft_done one.draft d;
     }
 
-pub shared : (s one : State) (left : ℕ) (t u : Term) (draft : List Cell) → draft ≡ [] → (cells : List Cell) → StandsFor cells (piece s.next t u).common → one ≡ with_piece s (piece s.next t u) → (common : List CellPair) → common ≡ one.common ++ (left, cells) ∷ [] → record { draft = draft; common = common; node = one.node; new = one.new; next = one.next } ≡ with_shared s left (piece s.next t u)
+pub shared : (s one : PartsSoFar) (left : ℕ) (t u : Term) (draft : List Cell) → draft ≡ [] → (cells : List Cell) → StandsFor cells (piece s.next t u).common → one ≡ with_piece s (piece s.next t u) → (common : List CellPair) → common ≡ one.common ++ (left, cells) ∷ [] → record { draft = draft; common = common; node = one.node; new = one.new; next = one.next } ≡ with_shared s left (piece s.next t u)
 shared s one left t u draft empty cells stands e common pushed =
     λ i. record {
       draft = empty i;

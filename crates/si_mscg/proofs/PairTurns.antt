@@ -6,7 +6,7 @@ use Rattle.si_flat.specs.Rows.{CellPair}
 use Rattle.si_legal.specs.Bindings.{Binding, StandForBindings}
 use Rattle.si_legal.specs.Generalizations.{Sides, sides}
 use Rattle.si_unify.proofs.Reading.{one_term}
-use Rattle.si_mscg.specs.Walking.{State, HaveSides, OfSides, TellsHeads, MayLeave, MayAgree, MaySharePair, SharesPair, with_whole, with_differing, with_agreeing}
+use Rattle.si_mscg.specs.Walking.{PartsSoFar, HaveSides, OfSides, TellsHeads, MayLeave, MayAgree, MaySharePair, SharesPair, with_whole, with_differing, with_agreeing}
 use Rattle.si_mscg.proofs.PairLaws.{first_sides, no_sides, left_none, left_same, left_one, Unbound, left_unbound, shared_none, Goes, goes_other, goes_on, may_share_pair}
 
 -- ---- cells stand for one list of bindings
@@ -43,9 +43,9 @@ one_ends f g f' g' r e h = by (subst (Steps f g f' g') e h) where
   by (inl x) = inl x.1.0
   by (inr x) = inr x.1.0
 
-module _ (node new : List CellPair) (start : State) where
+module _ (node new : List CellPair) (start : PartsSoFar) where
   -- ---- what differs at the root
-  abbrev pub LeavesPairs : List CellPair → List CellPair → State → Type 0
+  abbrev pub LeavesPairs : List CellPair → List CellPair → PartsSoFar → Type 0
   LeavesPairs first second s = OfSides node new (λ ss. HaveSides first second (λ rest. with_differing s rest ≡ with_differing start ss))
 
   pub leaves_all : (first second : List CellPair) → first ≡ node → second ≡ new → LeavesPairs first second start
@@ -57,11 +57,11 @@ module _ (node new : List CellPair) (start : State) where
     holds = refl;
   }
 
-  pub leaves_none : (first second : List CellPair) (s : State) → (first ≡ []) ⊎ (second ≡ []) → LeavesPairs first second s → OfSides node new (λ ss. s ≡ with_differing start ss)
+  pub leaves_none : (first second : List CellPair) (s : PartsSoFar) → (first ≡ []) ⊎ (second ≡ []) → LeavesPairs first second s → OfSides node new (λ ss. s ≡ with_differing start ss)
   leaves_none first second s e l = λ ns ms h k. left_none s ∙ no_sides first second (λ rest. with_differing s rest ≡ with_differing start (sides ns ms)) e (l ns ms h k)
 
   -- ---- what agrees at the root
-  abbrev pub SharesPairs : List CellPair → List CellPair → State → Type 0
+  abbrev pub SharesPairs : List CellPair → List CellPair → PartsSoFar → Type 0
   SharesPairs first second s = OfSides node new (λ ss. HaveSides first second (Goes s (with_agreeing start ss)))
 
   pub shares_all : (first second : List CellPair) → first ≡ node → second ≡ new → HaveSides node new (MayAgree start) → SharesPairs first second start
@@ -73,11 +73,11 @@ module _ (node new : List CellPair) (start : State) where
     holds = record { empty = here.empty; short = here.short; leads = refl };
   }
 
-  pub shares_none : (first second : List CellPair) (s : State) → (first ≡ []) ⊎ (second ≡ []) → SharesPairs first second s → OfSides node new (λ ss. s ≡ with_agreeing start ss)
+  pub shares_none : (first second : List CellPair) (s : PartsSoFar) → (first ≡ []) ⊎ (second ≡ []) → SharesPairs first second s → OfSides node new (λ ss. s ≡ with_agreeing start ss)
   shares_none first second s e l = λ ns ms h k. let last = no_sides first second (Goes s (with_agreeing start (sides ns ms))) e (l ns ms h k) in shared_none s last.empty ∙ last.leads
 
   -- ---- one turn
-  module _ (f g f' g' : List CellPair) (p q : CellPair) (first : BothFirst f g f' g' p q) (same : Bool) (tells : TellsHeads same p q) (s : State) where
+  module _ (f g f' g' : List CellPair) (p q : CellPair) (first : BothFirst f g f' g' p q) (same : Bool) (tells : TellsHeads same p q) (s : PartsSoFar) where
     pub left_skips : same ≡ true → LeavesPairs f g s → LeavesPairs f' g' s
     left_skips e l = λ ns ms h k.
         let one = first_sides f g p q f' g' (λ rest. with_differing s rest ≡ with_differing start (sides ns ms)) first.node first.new (l ns ms h k) in
@@ -89,7 +89,7 @@ module _ (node new : List CellPair) (start : State) where
           holds = left_same s (record { left = p.0; node = one.t; new = one.u }) (sides one.ns one.ms) (sym (tells one.t one.u one.stands one.new_stands) ∙ e) ∙ one.holds;
         }
 
-    pub left_goes_on : (after : State) → same ≡ false → after ≡ with_whole s p q → LeavesPairs f g s → LeavesPairs f' g' after
+    pub left_goes_on : (after : PartsSoFar) → same ≡ false → after ≡ with_whole s p q → LeavesPairs f g s → LeavesPairs f' g' after
     left_goes_on after e is l = λ ns ms h k.
         let one = first_sides f g p q f' g' (λ rest. with_differing s rest ≡ with_differing start (sides ns ms)) first.node first.new (l ns ms h k) in
         record {
@@ -116,7 +116,7 @@ module _ (node new : List CellPair) (start : State) where
           holds = goes_other s (with_agreeing start (sides ns ms)) (record { left = p.0; node = one.t; new = one.u }) (sides one.ns one.ms) (sym (tells one.t one.u one.stands one.new_stands) ∙ e) one.holds;
         }
 
-    pub shared_goes_on : (after : State) → same ≡ true → SharesPair s p q after → SharesPairs f g s → SharesPairs f' g' after
+    pub shared_goes_on : (after : PartsSoFar) → same ≡ true → SharesPair s p q after → SharesPairs f g s → SharesPairs f' g' after
     shared_goes_on after e is l = λ ns ms h k.
         let one = first_sides f g p q f' g' (Goes s (with_agreeing start (sides ns ms))) first.node first.new (l ns ms h k) in
         record {

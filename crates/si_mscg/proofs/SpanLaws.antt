@@ -10,7 +10,7 @@ use Rattle.si_flat.specs.Cells.{Variable, query, entry, ind, Term, Terms, variab
 use Rattle.si_flat.specs.Rows.{first_span}
 use Rattle.si_defs.proofs.TermLaws.{size_some}
 use Rattle.si_flat.proofs.Subterms.{length-cells_of, span-first}
-use Rattle.si_mscg.specs.Generalising.{draft_of, draft_of_all, IsDraft, HasTerms, spans, with_span, respanned, HasArguments}
+use Rattle.si_mscg.specs.Generalising.{draft_of, draft_of_all, IsDraft, BeginsWithTerms, spans, with_span, respanned, HasArguments}
 
 -- ---- the cells of some terms
 first_term : (t : Term) (back : List Cell) → drop (first_span (cells_of t ++ back)) (cells_of t ++ back) ≡ back
@@ -24,7 +24,7 @@ spans_all (terms.more t ts) back =
     (λ i. spans (one i) (split i))
     ∙ (λ i. span-first t (cells_of_all ts ++ back) (cell.Query 0) i + (ap (spans (terms.count ts)) (first_term t (cells_of_all ts ++ back)) ∙ spans_all ts back) i)
 
-pub spans_front : (n : ℕ) (cells : List Cell) (h : HasTerms n cells) → spans n cells ≡ terms.sizes h.front
+pub spans_front : (n : ℕ) (cells : List Cell) (h : BeginsWithTerms n cells) → spans n cells ≡ terms.sizes h.front
 spans_front n cells h = (λ i. spans (sym h.counted i) (h.parts i)) ∙ spans_all h.front h.back
 
 -- ---- drafts
@@ -102,7 +102,7 @@ pub record IsPast (total : ℕ) (cells : List Cell) (turns end : ℕ) : Type 0 w
   pub sum : end + terms.sizes front ≡ spans total cells
   pub inside : end ≤ length cells
 
-pub past_none : (total : ℕ) (cells : List Cell) → HasTerms total cells → IsPast total cells 0 0
+pub past_none : (total : ℕ) (cells : List Cell) → BeginsWithTerms total cells → IsPast total cells 0 0
 past_none total cells h = record {
   front = h.front;
   back = h.back;

@@ -17,7 +17,7 @@ use Rattle.si_legal.proofs.Splitting.{either}
 use Rattle.si_legal.proofs.SplitLaws.{IsCut, is_cut, fewer, sound_sides, sound_rows, same_count}
 use Rattle.si_mscg.specs.declared.walk.Walk.{Walk}
 use Rattle.si_mscg.specs.Generalising.{MayGeneralise, Generalises}
-use Rattle.si_mscg.specs.Walking.{State, state_of, start, cell_pairs, with_differing, with_agreeing, HaveSides, OfSides, MayEnd, MayLeave, MayAgree}
+use Rattle.si_mscg.specs.Walking.{PartsSoFar, state_of, start, cell_pairs, with_differing, with_agreeing, HaveSides, OfSides, MayEnd, MayLeave, MayAgree}
 use Rattle.si_mscg.proofs.PieceLaws.{AreSoundSides, sound_pieces, sound_side_pairs, sound_with_lefts, all_fit}
 use Rattle.si_mscg.proofs.PairTurns.{one_list}
 
@@ -54,7 +54,7 @@ agreeing_small (b ∷ ns) (c ∷ ms) =
     either (λ ss. terms.sizes (node_terms ss) ≤ terms.size b.1 + right_sizes ns) (same_head b.1 c.1) (first ∷ agreeing (sides ns ms)) (agreeing (sides ns ms)) (λ e. omega (arith, rest)) (λ e. omega (arith, rest))
 
 -- ---- the end of the walks
-abbrev pub end_of : ℕ → List Sides → State
+abbrev pub end_of : ℕ → List Sides → PartsSoFar
 end_of next ss = record {
   draft = [];
   common = cell_pairs (common_of next ss);
@@ -146,7 +146,7 @@ module _ (next : ℕ) (ns ms : List Binding) (may : MaySplit next ns ms) (sound 
   }
 
 -- ---- the call
-pub may_begin : (next : ℕ) (node new : List CellPair) (s : State) → s ≡ start next → MayGeneralise next node new → HaveSides node new (MayLeave s)
+pub may_begin : (next : ℕ) (node new : List CellPair) (s : PartsSoFar) → s ≡ start next → MayGeneralise next node new → HaveSides node new (MayLeave s)
 may_begin next node new s is h = record {
   ns = h.0;
   ms = h.1;
@@ -155,7 +155,7 @@ may_begin next node new s is h = record {
   holds = subst (λ x. MayLeave x (sides h.0 h.1)) (sym is) (may_leave next h.0 h.1 h.4 (sound_of node h.0 h.2) (sound_of new h.1 h.3));
 }
 
-pub may_go_on : (next : ℕ) (node new : List CellPair) (s t : State) → s ≡ start next → OfSides node new (λ ss. t ≡ with_differing s ss) → MayGeneralise next node new → HaveSides node new (MayAgree t)
+pub may_go_on : (next : ℕ) (node new : List CellPair) (s t : PartsSoFar) → s ≡ start next → OfSides node new (λ ss. t ≡ with_differing s ss) → MayGeneralise next node new → HaveSides node new (MayAgree t)
 may_go_on next node new s t is all h = record {
   ns = h.0;
   ms = h.1;
@@ -166,7 +166,7 @@ may_go_on next node new s t is all h = record {
       subst (λ x. MayAgree x (sides h.0 h.1)) (sym here) (may_agree next h.0 h.1 h.4 (sound_of node h.0 h.2) (sound_of new h.1 h.3));
 }
 
-pub generalises : (next : ℕ) (node new : List CellPair) (s t : State) (w : Walk) (split : Split) → s ≡ start next → OfSides node new (λ ss. t ≡ with_differing s ss) → OfSides node new (λ ss. state_of w ≡ with_agreeing t ss) → split ≡ w.split → MayGeneralise next node new → Generalises next node new split
+pub generalises : (next : ℕ) (node new : List CellPair) (s t : PartsSoFar) (w : Walk) (split : Split) → s ≡ start next → OfSides node new (λ ss. t ≡ with_differing s ss) → OfSides node new (λ ss. state_of w ≡ with_agreeing t ss) → split ≡ w.split → MayGeneralise next node new → Generalises next node new split
 generalises next node new s t w split is first second done h =
     λ ns ms k l.
     let may = subst (λ ys. MaySplit next ns ys) (one_list new h.1 ms h.3 l) (subst (λ xs. MaySplit next xs h.1) (one_list node h.0 ns h.2 k) h.4) in
@@ -182,6 +182,6 @@ generalises next node new s t w split is first second done h =
       parts.splits,
     )
 
-pub generalises_if_ok : {E : Type 0} (r : Result Split E) (next : ℕ) (node new : List CellPair) (s t : State) (w : Walk) → s ≡ start next → OfSides node new (λ ss. t ≡ with_differing s ss) → OfSides node new (λ ss. state_of w ≡ with_agreeing t ss) → IfOk r (λ split. split ≡ w.split) → MayGeneralise next node new → IfOk r (Generalises next node new)
+pub generalises_if_ok : {E : Type 0} (r : Result Split E) (next : ℕ) (node new : List CellPair) (s t : PartsSoFar) (w : Walk) → s ≡ start next → OfSides node new (λ ss. t ≡ with_differing s ss) → OfSides node new (λ ss. state_of w ≡ with_agreeing t ss) → IfOk r (λ split. split ≡ w.split) → MayGeneralise next node new → IfOk r (Generalises next node new)
 generalises_if_ok (Ok split) next node new s t w is first second done h = generalises next node new s t w split is first second done h
 generalises_if_ok (Err e) next node new s t w is first second done h = tt

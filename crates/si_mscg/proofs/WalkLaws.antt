@@ -17,7 +17,7 @@ use Rattle.si_unify.proofs.Reading.{same_term}
 use Rattle.si_unify.proofs.Rows.{cells-join, sound-join, count-join}
 use Rattle.si_legal.proofs.Splitting.{symbol_is}
 use Rattle.si_mscg.specs.Generalising.{same_head_cell, spanless, draft_of, draft_of_all}
-use Rattle.si_mscg.specs.Walking.{State, cell_pairs, with_piece, MayEnd, BeginsWithTerm}
+use Rattle.si_mscg.specs.Walking.{PartsSoFar, cell_pairs, with_piece, MayEnd, BeginsWithTerm}
 
 -- ---- rows of terms, one after the other
 pub draft-join : (ts us : Terms) → draft_of_all (join ts us) ≡ draft_of_all ts ++ draft_of_all us
@@ -46,7 +46,7 @@ pieces-join next (terms.more t ts) (terms.more u us) ts' us' e =
 
 -- ---- the state of a walk
 -- from one state, with these terms left, the walk comes to another
-pub record Leads (s : State) (ts us : Terms) (end : State) : Type 0 where
+pub record Leads (s : PartsSoFar) (ts us : Terms) (end : PartsSoFar) : Type 0 where
   pub draft : s.draft ++ draft_of_all (pieces s.next ts us).common ≡ end.draft
   pub common : s.common ≡ end.common
   pub node : s.node ++ cell_pairs (pieces s.next ts us).node ≡ end.node
@@ -54,7 +54,7 @@ pub record Leads (s : State) (ts us : Terms) (end : State) : Type 0 where
   pub next : (pieces s.next ts us).next ≡ end.next
 
 -- what is left to walk over
-pub record Left (node new : List Cell) (s end : State) : Type 0 where
+pub record Left (node new : List Cell) (s end : PartsSoFar) : Type 0 where
   pub ts : Terms
   pub us : Terms
   pub node_are : node ≡ cells_of_all ts
@@ -69,7 +69,7 @@ abbrev pieces_from : Piece → Terms → Terms → Pieces
 pieces_from p ts us = then p (pieces p.next ts us)
 
 -- one term was split into a piece whose common part has one cell
-pub one_done : (s end : State) (t u : Term) (ts us : Terms) (p : Piece) (c : Cell) → piece s.next t u ≡ p → draft_of p.common ≡ c ∷ [] → Leads s (terms.more t ts) (terms.more u us) end → Leads (record { draft = s.draft ++ c ∷ []; common = s.common; node = s.node ++ cell_pairs p.node; new = s.new ++ cell_pairs p.new; next = p.next }) ts us end
+pub one_done : (s end : PartsSoFar) (t u : Term) (ts us : Terms) (p : Piece) (c : Cell) → piece s.next t u ≡ p → draft_of p.common ≡ c ∷ [] → Leads s (terms.more t ts) (terms.more u us) end → Leads (record { draft = s.draft ++ c ∷ []; common = s.common; node = s.node ++ cell_pairs p.node; new = s.new ++ cell_pairs p.new; next = p.next }) ts us end
 one_done s end t u ts us p c is one h =
     let all : pieces s.next (terms.more t ts) (terms.more u us) ≡ pieces_from p ts us = ap (λ q. pieces_from q ts us) is in
     record {
@@ -93,7 +93,7 @@ one_done s end t u ts us p c is one h =
     }
 
 -- two symbols are the same: their arguments come next
-pub opened_app : (s end : State) (f g : Symbol) (xs ys ts us : Terms) → ((f.number == g.number) && (f.arity == g.arity)) ≡ true → terms.count xs ≡ terms.count ys → Leads s (terms.more (terms.app f xs) ts) (terms.more (terms.app g ys) us) end → Leads (record s { draft = s.draft ++ cell.App f.number f.arity 1 ∷ [] }) (join xs ts) (join ys us) end
+pub opened_app : (s end : PartsSoFar) (f g : Symbol) (xs ys ts us : Terms) → ((f.number == g.number) && (f.arity == g.arity)) ≡ true → terms.count xs ≡ terms.count ys → Leads s (terms.more (terms.app f xs) ts) (terms.more (terms.app g ys) us) end → Leads (record s { draft = s.draft ++ cell.App f.number f.arity 1 ∷ [] }) (join xs ts) (join ys us) end
 opened_app s end f g xs ys ts us same counts h =
     let inside = pieces s.next xs ys in
     let rest = pieces inside.next ts us in
@@ -115,7 +115,7 @@ opened_app s end f g xs ys ts us same counts h =
 
 -- ---- one turn
 -- what is left, by its first terms
-pub record Turn (c : Cell) (rest new : List Cell) (s end : State) : Type 0 where
+pub record Turn (c : Cell) (rest new : List Cell) (s end : PartsSoFar) : Type 0 where
   pub t : Term
   pub u : Term
   pub ts : Terms
@@ -127,7 +127,7 @@ pub record Turn (c : Cell) (rest new : List Cell) (s end : State) : Type 0 where
   pub counts : terms.count ts ≡ terms.count us
   pub leads : Leads s (terms.more t ts) (terms.more u us) end
 
-pub turn : (c : Cell) (rest new : List Cell) (s end : State) → Left (c ∷ rest) new s end → Turn c rest new s end
+pub turn : (c : Cell) (rest new : List Cell) (s end : PartsSoFar) → Left (c ∷ rest) new s end → Turn c rest new s end
 turn c rest new s end l = by l.ts l.us l.node_are l.new_are l.sound l.new_sound l.counts l.leads where
   by : (ts us : Terms) → c ∷ rest ≡ cells_of_all ts → new ≡ cells_of_all us → AreSound ts → AreSound us → terms.count ts ≡ terms.count us → Leads s ts us end → Turn c rest new s end
   by terms.none us p q h k e leads = absurd cc
@@ -226,7 +226,7 @@ kept_term n (terms.var (entry m)) rest after e = absurd cc
 kept_term n (terms.var (ind m)) rest after e = let same : m ≡ n = cc in ap indicator same
 kept_term n (terms.app f xs) rest after e = absurd cc
 
-pub kept_turn : (n : ℕ) (rest new part new_rest : List Cell) (s end : State) → Turn (cell.Ind n) rest new s end → IsWhole part → new ≡ part ++ new_rest → Left rest new_rest (record s { draft = s.draft ++ cell.Ind n ∷ []; new = s.new ++ (n, part) ∷ [] }) end
+pub kept_turn : (n : ℕ) (rest new part new_rest : List Cell) (s end : PartsSoFar) → Turn (cell.Ind n) rest new s end → IsWhole part → new ≡ part ++ new_rest → Left rest new_rest (record s { draft = s.draft ++ cell.Ind n ∷ []; new = s.new ++ (n, part) ∷ [] }) end
 kept_turn n rest new part new_rest s end tr whole parts =
     let is = kept_term n tr.t rest (cells_of_all tr.ts) tr.node_are in
     let fronts = same_fronts tr.u (cells_of_all tr.us) part new_rest tr.new_sound.0 whole (sym tr.new_are ∙ parts) in
@@ -258,7 +258,7 @@ plain_term c rest after (terms.var (ind n)) e plain h = plain n (first_is c rest
 plain_term c rest after (terms.app f xs) e plain h = h
 
 -- different heads
-pub cut_turn : (c d : Cell) (rest inside part other node_rest new_rest : List Cell) (s end : State) → Turn c rest (d ∷ inside) s end → ((n : ℕ) → c ≡ cell.Ind n → ⊥) → same_head_cell c d ≡ false → IsWhole part → IsWhole other → c ∷ rest ≡ part ++ node_rest → d ∷ inside ≡ other ++ new_rest → Left node_rest new_rest (record {
+pub cut_turn : (c d : Cell) (rest inside part other node_rest new_rest : List Cell) (s end : PartsSoFar) → Turn c rest (d ∷ inside) s end → ((n : ℕ) → c ≡ cell.Ind n → ⊥) → same_head_cell c d ≡ false → IsWhole part → IsWhole other → c ∷ rest ≡ part ++ node_rest → d ∷ inside ≡ other ++ new_rest → Left node_rest new_rest (record {
   draft = s.draft ++ cell.Ind s.next ∷ [];
   common = s.common;
   node = s.node ++ (s.next, part) ∷ [];
@@ -300,7 +300,7 @@ false_not_true : false ≡ true → ⊥
 false_not_true e = cc
 
 -- the same head
-pub same_turn : (c d : Cell) (rest inside : List Cell) (s end : State) → Turn c rest (d ∷ inside) s end → ((n : ℕ) → c ≡ cell.Ind n → ⊥) → same_head_cell c d ≡ true → Left rest inside (record s { draft = s.draft ++ spanless c ∷ [] }) end
+pub same_turn : (c d : Cell) (rest inside : List Cell) (s end : PartsSoFar) → Turn c rest (d ∷ inside) s end → ((n : ℕ) → c ≡ cell.Ind n → ⊥) → same_head_cell c d ≡ true → Left rest inside (record s { draft = s.draft ++ spanless c ∷ [] }) end
 same_turn c d rest inside s end tr plain same =
     by tr.t tr.u tr.node_are tr.new_are tr.sound tr.new_sound (sym (heads_told c d rest inside (cells_of_all tr.ts) (cells_of_all tr.us) tr.t tr.u tr.node_are tr.new_are) ∙ same) tr.leads where
       Result : Type 0
@@ -347,31 +347,31 @@ same_turn c d rest inside s end tr plain same =
           }
 
 -- ---- what the calls of a turn need
-pub new_some : (c : Cell) (rest new : List Cell) (s end : State) → Turn c rest new s end → 0 < length new
+pub new_some : (c : Cell) (rest new : List Cell) (s end : PartsSoFar) → Turn c rest new s end → 0 < length new
 new_some c rest new s end tr = omega (arith, ap length tr.new_are, length-append (cells_of tr.u) (cells_of_all tr.us), cells_some tr.u)
 
-pub node_begins : (c : Cell) (rest new : List Cell) (s end : State) → Turn c rest new s end → BeginsWithTerm (c ∷ rest)
+pub node_begins : (c : Cell) (rest new : List Cell) (s end : PartsSoFar) → Turn c rest new s end → BeginsWithTerm (c ∷ rest)
 node_begins c rest new s end tr = record { term = tr.t; rest = cells_of_all tr.ts; sound = tr.sound.0; parts = tr.node_are }
 
-pub new_begins : (c : Cell) (rest new : List Cell) (s end : State) → Turn c rest new s end → BeginsWithTerm new
+pub new_begins : (c : Cell) (rest new : List Cell) (s end : PartsSoFar) → Turn c rest new s end → BeginsWithTerm new
 new_begins c rest new s end tr = record { term = tr.u; rest = cells_of_all tr.us; sound = tr.new_sound.0; parts = tr.new_are }
 
 pub fronts_apart : (xs ys all : List CellPair) (n : ℕ) → xs ++ ys ≡ all → AreDistinct (left_sides all) → IsAmong (left_sides ys) n → IsAmong (left_sides xs) n → ⊥
 fronts_apart xs ys all n e distinct b a = (distinct_parts (left_sides xs) (left_sides ys) (subst AreDistinct (ap (λ l. left_sides l) (sym e) ∙ map-append (λ p. p.0) xs ys) distinct)).2 n a b
 
-pub kept_unbound : (n : ℕ) (rest new : List Cell) (s end : State) → Turn (cell.Ind n) rest new s end → MayEnd end → IsAmong (left_sides s.new) n → ⊥
+pub kept_unbound : (n : ℕ) (rest new : List Cell) (s end : PartsSoFar) → Turn (cell.Ind n) rest new s end → MayEnd end → IsAmong (left_sides s.new) n → ⊥
 kept_unbound n rest new s end tr may a =
     let is = kept_term n tr.t rest (cells_of_all tr.ts) tr.node_are in
     fronts_apart s.new (cell_pairs (pieces s.next (terms.more tr.t tr.ts) (terms.more tr.u tr.us)).new) end.new n tr.leads.new may.new
     (subst (λ t. IsAmong (left_sides (cell_pairs (pieces s.next (terms.more t tr.ts) (terms.more tr.u tr.us)).new)) n) (sym is) (inl refl))
     a
 
-pub record MayCut (s : State) : Type 0 where
+pub record MayCut (s : PartsSoFar) : Type 0 where
   pub unbound : IsAmong (left_sides s.node) s.next → ⊥
   pub new_unbound : IsAmong (left_sides s.new) s.next → ⊥
   pub small : s.next + 1 < 2 ^ 32
 
-pub may_cut : (c d : Cell) (rest inside : List Cell) (s end : State) → Turn c rest (d ∷ inside) s end → ((n : ℕ) → c ≡ cell.Ind n → ⊥) → same_head_cell c d ≡ false → MayEnd end → MayCut s
+pub may_cut : (c d : Cell) (rest inside : List Cell) (s end : PartsSoFar) → Turn c rest (d ∷ inside) s end → ((n : ℕ) → c ≡ cell.Ind n → ⊥) → same_head_cell c d ≡ false → MayEnd end → MayCut s
 may_cut c d rest inside s end tr plain differ may =
     let is = apart_is s.next tr.t tr.u (plain_term c rest (cells_of_all tr.ts) tr.t tr.node_are plain) (sym (heads_told c d rest inside (cells_of_all tr.ts) (cells_of_all tr.us) tr.t tr.u tr.node_are tr.new_are) ∙ differ) in
     let all : pieces s.next (terms.more tr.t tr.ts) (terms.more tr.u tr.us) ≡ pieces_from (apart s.next tr.t tr.u) tr.ts tr.us = ap (λ q. pieces_from q tr.ts tr.us) is in
@@ -387,7 +387,7 @@ pub shorter : (cells part rest : List Cell) → IsWhole part → cells ≡ part 
 shorter cells part rest whole e = omega (arith, ap length e, length-append part rest, some_cell part whole)
 
 -- at the start all is left
-pub all_left : (node new : List Cell) (s : State) (t u : Term) → node ≡ cells_of t → new ≡ cells_of u → IsSound t → IsSound u → Left node new s (with_piece s (piece s.next t u))
+pub all_left : (node new : List Cell) (s : PartsSoFar) (t u : Term) → node ≡ cells_of t → new ≡ cells_of u → IsSound t → IsSound u → Left node new s (with_piece s (piece s.next t u))
 all_left node new s t u p q h k = record {
   ts = terms.more t terms.none;
   us = terms.more u terms.none;
@@ -407,7 +407,7 @@ all_left node new s t u p q h k = record {
 
 -- ---- the end
 -- at the end nothing is left
-at_end : (new : List Cell) (s end : State) → Left [] new s end → s ≡ end
+at_end : (new : List Cell) (s end : PartsSoFar) → Left [] new s end → s ≡ end
 at_end new s end l = by l.ts l.us l.node_are l.leads where
   by : (ts us : Terms) → ◌≡◌ {A = List Cell} [] (cells_of_all ts) → Leads s ts us end → s ≡ end
   by terms.none us p h =
@@ -420,5 +420,5 @@ at_end new s end l = by l.ts l.us l.node_are l.leads where
   by (terms.more (terms.var (ind n)) ts) us p h = absurd cc
   by (terms.more (terms.app f xs) ts) us p h = absurd cc
 
-pub none_left : (node new : List Cell) (s end : State) → length node ≡ 0 → Left node new s end → s ≡ end
+pub none_left : (node new : List Cell) (s end : PartsSoFar) → length node ≡ 0 → Left node new s end → s ≡ end
 none_left node new s end long h = at_end new s end (subst (λ l. Left l new s end) (nil_from_length node long) h)

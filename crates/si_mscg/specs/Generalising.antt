@@ -53,7 +53,7 @@ pub record IsDraft (cells : List Cell) : Type 0 where
   pub draft : cells ≡ draft_of term
 
 -- the cells begin with those of so many terms
-pub record HasTerms (n : ℕ) (cells : List Cell) : Type 0 where
+pub record BeginsWithTerms (n : ℕ) (cells : List Cell) : Type 0 where
   pub front : Terms
   pub back : List Cell
   pub counted : terms.count front ≡ n
@@ -75,5 +75,5 @@ respanned (c ∷ cells) = with_span c (respanned cells) ∷ respanned cells
 
 -- after a symbol stand as many terms as it has arguments
 abbrev pub HasArguments : Cell → List Cell → Type 0
-HasArguments (cell.App s arity n) cells = HasTerms arity cells
+HasArguments (cell.App s arity n) cells = BeginsWithTerms arity cells
 HasArguments c cells = Unit {0}

@@ -17,14 +17,14 @@ abbrev pub cell_pairs : List Binding → List CellPair
 cell_pairs bs = map (λ b. (b.0, cells_of b.1)) bs
 
 -- what was found so far
-pub record State : Type 0 where
+pub record PartsSoFar : Type 0 where
   pub draft : List Cell
   pub common : List CellPair
   pub node : List CellPair
   pub new : List CellPair
   pub next : ℕ
 
-abbrev pub state_of : Walk → State
+abbrev pub state_of : Walk → PartsSoFar
 state_of w = record {
   draft = w.draft.items;
   common = w.split.common;
@@ -33,18 +33,18 @@ state_of w = record {
   next = w.next;
 }
 
-abbrev pub start : ℕ → State
+abbrev pub start : ℕ → PartsSoFar
 start next = record { draft = []; common = []; node = []; new = []; next = next }
 
 -- no left side of a rest stands there twice, and there is a number for each fresh indicator
-pub record MayEnd (s : State) : Type 0 where
+pub record MayEnd (s : PartsSoFar) : Type 0 where
   pub node : AreDistinct (left_sides s.node)
   pub new : AreDistinct (left_sides s.new)
   pub next : s.next < 2 ^ 32
 
 -- ---- the walk over two terms
 -- with one piece more
-abbrev pub with_piece : State → Piece → State
+abbrev pub with_piece : PartsSoFar → Piece → PartsSoFar
 with_piece s p = record {
   draft = s.draft ++ draft_of p.common;
   common = s.common;
@@ -54,7 +54,7 @@ with_piece s p = record {
 }
 
 -- the two terms may be split after what was found
-abbrev pub MayShare : State → List Cell → List Cell → Type 0
+abbrev pub MayShare : PartsSoFar → List Cell → List Cell → Type 0
 MayShare s node new =
     (t u : Term) → StandsFor node t → StandsFor new u → MayEnd (with_piece s (piece s.next t u))
 
@@ -108,7 +108,7 @@ TellsHeads same pair other =
     (t u : Term) → StandsFor pair.1 t → StandsFor other.1 u → same ≡ same_head t u
 
 -- with two right sides left whole
-abbrev pub with_whole : State → CellPair → CellPair → State
+abbrev pub with_whole : PartsSoFar → CellPair → CellPair → PartsSoFar
 with_whole s pair other = record {
   draft = s.draft;
   common = s.common;
@@ -118,7 +118,7 @@ with_whole s pair other = record {
 }
 
 -- with a common right side more
-abbrev pub with_shared : State → ℕ → Piece → State
+abbrev pub with_shared : PartsSoFar → ℕ → Piece → PartsSoFar
 with_shared s left p = record {
   draft = [];
   common = s.common ++ (left, cells_of p.common) ∷ [];
@@ -128,24 +128,24 @@ with_shared s left p = record {
 }
 
 -- a common right side of the two may come next
-pub record MayShareSides (s : State) (left : ℕ) (t u : Term) : Type 0 where
+pub record MayShareSides (s : PartsSoFar) (left : ℕ) (t u : Term) : Type 0 where
   pub empty : s.draft ≡ []
   pub unbound : IsAmong (left_sides s.common) left → ⊥
   pub short : terms.size t < 2 ^ 32
   pub may_end : MayEnd (with_piece s (piece s.next t u))
 
-abbrev pub MaySharePair : State → CellPair → CellPair → Type 0
+abbrev pub MaySharePair : PartsSoFar → CellPair → CellPair → Type 0
 MaySharePair s pair other =
     (t u : Term) → StandsFor pair.1 t → StandsFor other.1 u → MayShareSides s pair.0 t u
 
-abbrev pub SharesPair : State → CellPair → CellPair → State → Type 0
+abbrev pub SharesPair : PartsSoFar → CellPair → CellPair → PartsSoFar → Type 0
 SharesPair old pair other new =
     (t u : Term) → StandsFor pair.1 t → StandsFor other.1 u
     → new ≡ with_shared old pair.0 (piece old.next t u)
 
 -- ---- two lists
 -- with what differs at the root left whole
-abbrev pub with_differing : State → List Sides → State
+abbrev pub with_differing : PartsSoFar → List Sides → PartsSoFar
 with_differing s ss = record {
   draft = s.draft;
   common = s.common;
@@ -155,7 +155,7 @@ with_differing s ss = record {
 }
 
 -- with what agrees at the root split
-abbrev pub with_agreeing : State → List Sides → State
+abbrev pub with_agreeing : PartsSoFar → List Sides → PartsSoFar
 with_agreeing s ss = record {
   draft = [];
   common = s.common ++ cell_pairs (common_of s.next ss);
@@ -177,10 +177,10 @@ abbrev pub OfSides : List CellPair → List CellPair → (List Sides → Type 0)
 OfSides node new P =
     (ns ms : List Binding) → StandForBindings node ns → StandForBindings new ms → P (sides ns ms)
 
-abbrev pub MayLeave : State → List Sides → Type 0
+abbrev pub MayLeave : PartsSoFar → List Sides → Type 0
 MayLeave s ss = MayEnd (with_differing s ss)
 
-pub record MayAgree (s : State) (ss : List Sides) : Type 0 where
+pub record MayAgree (s : PartsSoFar) (ss : List Sides) : Type 0 where
   pub empty : s.draft ≡ []
   pub short : AllByRecursion (λ b. terms.size b.node < 2 ^ 32) ss
   pub distinct : AreDistinct (left_sides (with_agreeing s ss).common)

@@ -1,7 +1,7 @@
 // The numbers of cells at symbols, set where all cells of a term are known.
 ghost use Rattle.std.specs.Prelude.{◌≡◌, ◌+◌, ◌<◌, ◌≤◌, ◌^◌, drop, length, slice_index_or, slice_set};
 ghost use Rattle.si_flat.specs.declared.Cell.TheVariants.{App};
-ghost use Rattle.si_mscg.specs.Generalising.{HasArguments, HasTerms, IsDraft, respanned, spanless, spans, with_span};
+ghost use Rattle.si_mscg.specs.Generalising.{HasArguments, BeginsWithTerms, IsDraft, respanned, spanless, spans, with_span};
 
 use si_flat::Cell;
 
@@ -49,7 +49,7 @@ fn set_span(cells: &mut Vec<Cell>, at: usize)
 
 // The number of cells of so many terms.
 fn arguments_span(cells: &[Cell], count: u32) -> usize
-    requires { HasTerms count cells.now }
+    requires { BeginsWithTerms count cells.now }
     ensures span { result ≡ spans count cells.now }
     ensures inside { result ≤ length cells.now }
 {

@@ -2,7 +2,7 @@
 use Rattle.std.proofs.Common.{◌≡◌, ◌≢◌, ℕ, suc, add-one, drop-cons, ◌+◌, ◌-◌, ◌≤◌, ◌<◌, List, [], ◌∷◌, ◌++◌, length, take, drop, get_or, Option, Some, None, refl, sym, ap, ◌∙◌, subst, arith, Bor}
 use Rattle.std.proofs.lemmas.List.{take_all, take_more, take_rest, take-append-drop, length-take-le, length-append, length-map}
 use Rattle.si_defs.specs.Tokens.{Token, mark}
-use Rattle.si_parse.specs.Parsing.{ReadsTokens, Reads, Passes, Anything}
+use Rattle.si_parse.specs.Parsing.{ReadsTokens, Reads, PassesTokens, Anything}
 use Rattle.si_lex.specs.Lexemes.{token_of, tokens_of}
 use Rattle.si_lex.specs.declared.lexeme.Lexeme.{Lexeme}
 use Rattle.si_defs.specs.declared.TokenKind.TheVariants.{Lower}
@@ -47,14 +47,14 @@ module _ {X M : Type 0} (view : X → M) {Means : M → List Token → Type 0} {
   reads_none p e = subst (λ r. Reads view Means Follows tokens r) e p
 
 -- what is left after what was passed
-pub passes_some : {Spelled : List Token → Type 0} {result : Option (Bor (List Lexeme))} {behind : Bor (List Lexeme)} (tokens : List Lexeme) → Passes Spelled tokens result → result ≡ Some behind
+pub passes_some : {Spelled : List Token → Type 0} {result : Option (Bor (List Lexeme))} {behind : Bor (List Lexeme)} (tokens : List Lexeme) → PassesTokens Spelled tokens result → result ≡ Some behind
     → ReadsTokens (λ (u : Unit {0}) used. Spelled used) Anything (tokens_of tokens) (Some (tt {0}, tokens_of behind.now))
-passes_some {Spelled = Spelled} tokens p e = subst (λ r. Passes Spelled tokens r) e p
+passes_some {Spelled = Spelled} tokens p e = subst (λ r. PassesTokens Spelled tokens r) e p
 
 -- that nothing was passed
-pub passes_none : {Spelled : List Token → Type 0} {result : Option (Bor (List Lexeme))} (tokens : List Lexeme) → Passes Spelled tokens result → result ≡ None
+pub passes_none : {Spelled : List Token → Type 0} {result : Option (Bor (List Lexeme))} (tokens : List Lexeme) → PassesTokens Spelled tokens result → result ≡ None
     → ReadsTokens (λ (u : Unit {0}) used. Spelled used) Anything (tokens_of tokens) None
-passes_none {Spelled = Spelled} tokens p e = subst (λ r. Passes Spelled tokens r) e p
+passes_none {Spelled = Spelled} tokens p e = subst (λ r. PassesTokens Spelled tokens r) e p
 
 -- what is left is no longer than the tokens are
 pub left_shorter : {M : Type 0} {m : M} {Means : M → List Token → Type 0} {Follows : List Token → Type 0} (tokens behind : List Lexeme) → ReadsTokens Means Follows (tokens_of tokens) (Some (m, tokens_of behind))

@@ -5,13 +5,13 @@ use Rattle.std.proofs.lemmas.List.{length-append}
 use Rattle.si_defs.specs.Tokens.{Token}
 use Rattle.si_defs.proofs.ListLaws.{same_tail}
 use Rattle.si_parse.specs.Parsing.{ReadsTokens}
-use Rattle.si_parse.specs.GrammarRules.{AreMore, IsRow}
+use Rattle.si_parse.specs.GrammarRules.{AreMore, AreSeparated}
 use Rattle.si_parse.proofs.ParseSteps.{parses_none, parses_some, parses_uses, parses_one, parses_never}
 
 -- Some items of a row were read: what is left goes on with a sign and the others as the tokens do.
 pub record Along {M : Type 0} (Means : M → List Token → Type 0) (sign : Token) (Ends : List Token → Type 0) (tokens : List Token) (done : List M) (left : List Token) : Type 0 where
-  found : (whole : List Token) × (tokens ≡ whole ++ left) × IsRow Means sign done whole
-  every : (ms : List M) (used rest : List Token) → tokens ≡ used ++ rest → IsRow Means sign ms used → Ends rest
+  found : (whole : List Token) × (tokens ≡ whole ++ left) × AreSeparated Means sign done whole
+  every : (ms : List M) (used rest : List Token) → tokens ≡ used ++ rest → AreSeparated Means sign ms used → Ends rest
       → (others : List M) × (behind : List Token) × (ms ≡ done ++ others) × (left ≡ behind ++ rest) × AreMore Means sign others behind
 
 -- the same items, said otherwise
@@ -24,9 +24,9 @@ more_few : {M : Type 0} (Means : M → List Token → Type 0) (sign : Token) (ms
 more_few Means sign [] ts h = omega arith
 more_few Means sign (m ∷ ms) ts (first, others, one, all, e) = omega (arith, more_few Means sign ms others all, ap length e, length-append first others)
 
-pub row_few : {M : Type 0} {Means : M → List Token → Type 0} {Ends : List Token → Type 0} {sign : Token} {tokens rest : List Token} (ms : List M) → ReadsTokens (IsRow Means sign) Ends tokens (Some (ms, rest)) → length ms ≤ length tokens + 1
+pub row_few : {M : Type 0} {Means : M → List Token → Type 0} {Ends : List Token → Type 0} {sign : Token} {tokens rest : List Token} (ms : List M) → ReadsTokens (AreSeparated Means sign) Ends tokens (Some (ms, rest)) → length ms ≤ length tokens + 1
 row_few {M = M} {Means = Means} {sign = sign} {tokens = tokens} {rest = rest} ms p = few ms (parses_uses ms rest p) where
-  few : (ms : List M) → (used : List Token) × (tokens ≡ used ++ rest) × IsRow Means sign ms used → length ms ≤ length tokens + 1
+  few : (ms : List M) → (used : List Token) × (tokens ≡ used ++ rest) × AreSeparated Means sign ms used → length ms ≤ length tokens + 1
   few [] h = omega arith
   few (m ∷ ms) (used, e, (first, others, one, all, f)) =
       omega (arith, more_few Means sign ms others all, ap length f, ap length e, length-append used rest, length-append first others)
@@ -44,15 +44,15 @@ module _ {M : Type 0} (Means : M → List Token → Type 0) {sign : Token} {Foll
   more_push (u ∷ us) m ts first (next, others, two, all, e) one =
       (next, others ++ sign ∷ first, two, more_push us m others first all one, ap (λ x. x ++ sign ∷ first) e ∙ ap (λ x. sign ∷ x) (append_assoc next others (sign ∷ first)))
 
-  row_push : (ms : List M) (m : M) (ts first : List Token) → IsRow Means sign ms ts → Means m first → IsRow Means sign (ms ++ m ∷ []) (ts ++ sign ∷ first)
+  row_push : (ms : List M) (m : M) (ts first : List Token) → AreSeparated Means sign ms ts → Means m first → AreSeparated Means sign (ms ++ m ∷ []) (ts ++ sign ∷ first)
   row_push [] m ts first h one = absurd h
   row_push (u ∷ us) m ts first (next, others, two, all, e) one =
       (next, others ++ sign ∷ first, two, more_push us m others first all one, ap (λ x. x ++ sign ∷ first) e ∙ append_assoc next others (sign ∷ first))
 
   -- where no item is read there is no row
-  pub row_none : {tokens : List Token} → ReadsTokens Means Follows tokens None → ReadsTokens (IsRow Means sign) Ends tokens None
+  pub row_none : {tokens : List Token} → ReadsTokens Means Follows tokens None → ReadsTokens (AreSeparated Means sign) Ends tokens None
   row_none {tokens = tokens} p = parses_none never where
-    never : (ms : List M) (used rest : List Token) → tokens ≡ used ++ rest → IsRow Means sign ms used → Ends rest → ⊥
+    never : (ms : List M) (used rest : List Token) → tokens ≡ used ++ rest → AreSeparated Means sign ms used → Ends rest → ⊥
     never [] used rest e h ends = h
     never (u ∷ us) used rest e (first, more, one, all, f) ends =
         parses_never p u first (more ++ rest) (e ∙ ap (λ x. x ++ rest) f ∙ append_assoc first more rest) one (behind_one us more rest all ends)
@@ -60,7 +60,7 @@ module _ {M : Type 0} (Means : M → List Token → Type 0) {sign : Token} {Foll
   -- the first item was read
   pub along_first : {tokens left : List Token} {m : M} → ReadsTokens Means Follows tokens (Some (m, left)) → Along Means sign Ends tokens (m ∷ []) left
   along_first {tokens = tokens} {left = left} {m = m} p = record { found = let h = parses_uses m left p in (h.0, h.1, (h.0, [], h.2, refl, sym (append-nil h.0))); every = every } where
-    every : (ms : List M) (used rest : List Token) → tokens ≡ used ++ rest → IsRow Means sign ms used → Ends rest
+    every : (ms : List M) (used rest : List Token) → tokens ≡ used ++ rest → AreSeparated Means sign ms used → Ends rest
         → (others : List M) × (behind : List Token) × (ms ≡ m ∷ others) × (left ≡ behind ++ rest) × AreMore Means sign others behind
     every [] used rest e h ends = absurd h
     every (u ∷ us) used rest e (first, more, one, all, f) ends =
@@ -69,7 +69,7 @@ module _ {M : Type 0} (Means : M → List Token → Type 0) {sign : Token} {Foll
 
   module _ {tokens left : List Token} {done : List M} (along : Along Means sign Ends tokens done left) where
     -- no sign after the items: they are the whole row
-    pub row_some : ((rest : List Token) → left ≡ sign ∷ rest → ⊥) → ReadsTokens (IsRow Means sign) Ends tokens (Some (done, left))
+    pub row_some : ((rest : List Token) → left ≡ sign ∷ rest → ⊥) → ReadsTokens (AreSeparated Means sign) Ends tokens (Some (done, left))
     row_some none = parses_some done along.found.0 left along.found.1 along.found.2 (λ ms used rest e row ends.
         let o = along.every ms used rest e row ends in unique ms o.0 o.1 rest o.2 o.3 o.4) where
           unique : (ms others : List M) (behind rest : List Token) → ms ≡ done ++ others → left ≡ behind ++ rest → AreMore Means sign others behind → (done ≡ ms) × (left ≡ rest)
@@ -86,7 +86,7 @@ module _ {M : Type 0} (Means : M → List Token → Type 0) {sign : Token} {Foll
           (u, us, first, more, refl, one, all, same_tail (sym goes ∙ e ∙ ap (λ x. x ++ rest) f) ∙ append_assoc first more rest, behind_one us more rest all ends)
 
       -- without an item after it there is no row
-      pub row_stop : ReadsTokens Means Follows next None → ReadsTokens (IsRow Means sign) Ends tokens None
+      pub row_stop : ReadsTokens Means Follows next None → ReadsTokens (AreSeparated Means sign) Ends tokens None
       row_stop p = parses_none (λ ms used rest e row ends.
           let o = along.every ms used rest e row ends in
           let g = row_goes o.0 o.1 rest o.3 o.4 ends in
@@ -95,7 +95,7 @@ module _ {M : Type 0} (Means : M → List Token → Type 0) {sign : Token} {Foll
       -- one more item was read
       pub along_more : {m : M} {behind : List Token} → ReadsTokens Means Follows next (Some (m, behind)) → Along Means sign Ends tokens (done ++ m ∷ []) behind
       along_more {m = m} {behind = behind} p = record { found = found; every = every } where
-        found : (whole : List Token) × (tokens ≡ whole ++ behind) × IsRow Means sign (done ++ m ∷ []) whole
+        found : (whole : List Token) × (tokens ≡ whole ++ behind) × AreSeparated Means sign (done ++ m ∷ []) whole
         found =
             let h = parses_uses m behind p in (
               along.found.0 ++ sign ∷ h.0,
@@ -103,7 +103,7 @@ module _ {M : Type 0} (Means : M → List Token → Type 0) {sign : Token} {Foll
               row_push done m along.found.0 h.0 along.found.2 h.2,
             )
 
-        every : (ms : List M) (used rest : List Token) → tokens ≡ used ++ rest → IsRow Means sign ms used → Ends rest
+        every : (ms : List M) (used rest : List Token) → tokens ≡ used ++ rest → AreSeparated Means sign ms used → Ends rest
             → (others : List M) × (after : List Token) × (ms ≡ (done ++ m ∷ []) ++ others) × (behind ≡ after ++ rest) × AreMore Means sign others after
         every ms used rest e row ends =
             let o = along.every ms used rest e row ends in

@@ -20,9 +20,10 @@ AreMore Means sign (m ∷ ms) ts =
     × (ts ≡ sign ∷ first ++ others)
 
 -- at least one, with a sign between each two
-abbrev pub IsRow : {M : Type 0} → (M → List Token → Type 0) → Token → List M → List Token → Type 0
-IsRow Means sign [] ts = ⊥
-IsRow Means sign (m ∷ ms) ts =
+abbrev pub AreSeparated : {M : Type 0} → (M → List Token → Type 0) → Token → List M
+    → List Token → Type 0
+AreSeparated Means sign [] ts = ⊥
+AreSeparated Means sign (m ∷ ms) ts =
     (first : List Token) × (others : List Token) × Means m first × AreMore Means sign ms others
     × (ts ≡ first ++ others)
 
@@ -38,7 +39,7 @@ function_symbol kind text arity =
 
 -- terms with commas between them
 abbrev pub AreTerms : List Term → List Token → Type 0
-AreTerms us ts = IsRow IsTerm comma us ts
+AreTerms us ts = AreSeparated IsTerm comma us ts
 
 -- what stands after the head of a term: nothing, or arguments in brackets
 abbrev pub IsApplied : SymKind → Bytes → Term → List Token → Type 0
@@ -100,7 +101,7 @@ IsNegated m ts =
 -- ---- formulas
 -- literals with bars between them
 abbrev pub AreLiterals : List Literal → List Token → Type 0
-AreLiterals ls ts = IsRow IsLiteral (mark 124) ls ts
+AreLiterals ls ts = AreSeparated IsLiteral (mark 124) ls ts
 
 -- so many closing brackets
 abbrev pub AreClosing : ℕ → List Token → Type 0
@@ -140,7 +141,7 @@ IsFileToken text ts = ts ≡ record { kind = token.Single; text = text } ∷ []
 
 -- names with commas between them
 abbrev pub AreNames : List Name → List Token → Type 0
-AreNames ns ts = IsRow IsNameToken comma ns ts
+AreNames ns ts = AreSeparated IsNameToken comma ns ts
 
 -- names in square brackets
 abbrev pub AreChosen : List Name → List Token → Type 0

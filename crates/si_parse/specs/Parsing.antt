@@ -53,8 +53,8 @@ Reads view Means Follows tokens result =
     (option_map (λ r. (view r.0, tokens_of r.1.now)) result)
 
 -- the same where only what is left is given
-abbrev pub Passes : (List Token → Type 0) → List Lexeme → Option (Bor (List Lexeme)) → Type 0
-Passes Spelled tokens result =
+abbrev pub PassesTokens : (List Token → Type 0) → List Lexeme → Option (Bor (List Lexeme)) → Type 0
+PassesTokens Spelled tokens result =
     ReadsTokens (λ (u : Unit {0}) used. Spelled used) Anything (tokens_of tokens)
     (option_map (λ r. (tt {0}, tokens_of r.now)) result)
 

@@ -6,7 +6,7 @@
 ghost use Rattle.std.specs.Prelude.{◌↔◌, IsFalse};
 ghost use Rattle.si_lex.specs.Lexemes.{tokens_of};
 ghost use Rattle.si_parse.specs.GrammarRules.{IsMark, IsOpening};
-ghost use Rattle.si_parse.specs.Parsing.{NoBracket, Passes};
+ghost use Rattle.si_parse.specs.Parsing.{NoBracket, PassesTokens};
 
 use si_lex::Lexeme;
 
@@ -31,7 +31,7 @@ pub type Parsed<'t, 'b, T> = Option<(T, &'t [Lexeme<'b>])>;
 
 /// The tokens after a mark, if it stands in front of them.
 pub fn mark_at<'t, 'b>(tokens: &'t [Lexeme<'b>], c: u8) -> Option<&'t [Lexeme<'b>]>
-    ensures { Passes (IsMark c) tokens.now result }
+    ensures { PassesTokens (IsMark c) tokens.now result }
 {
     match tokens {
         [first, rest @ ..] if first.is_mark(c) => Some(rest),
@@ -48,7 +48,7 @@ fn bracket_follows(tokens: &[Lexeme]) -> bool
 
 /// The tokens after a word and a bracket, as items begin.
 fn opening<'t, 'b>(tokens: &'t [Lexeme<'b>], word: &[u8]) -> Option<&'t [Lexeme<'b>]>
-    ensures { Passes (IsOpening word.now) tokens.now result }
+    ensures { PassesTokens (IsOpening word.now) tokens.now result }
 {
     match tokens {
         [first, rest @ ..] if first.is_lower(word) => mark_at(rest, b'('),

@@ -19,7 +19,7 @@ use Rattle.si_flat.specs.declared.Cell.{Cell}
 use Rattle.si_flat.specs.declared.Cell.TheVariants as cell
 use Rattle.si_flat.specs.Rows.{CellPair, left_sides}
 use Rattle.si_legal.proofs.SplitLaws.{occurs_not}
-use Rattle.si_prune.specs.Pruning.{AreInOrder, AreNumbersInOrder, part_in}
+use Rattle.si_prune.specs.Pruning.{AreInLeftOrder, AreNumbersInOrder, part_in}
 
 -- ---- what is bound
 among_left : (pairs : List CellPair) (pair : CellPair) → IsAmong pairs pair → IsAmong (left_sides pairs) pair.0
@@ -49,16 +49,16 @@ all_moved : (P : CellPair → Type 0) (pairs order : List CellPair) → IsPermut
 all_moved P pairs order same all pair a =
     all_at P order pair (recursion_from_All P order (All-permutation P pairs order same (All-from_recursion P pairs (all_from P pairs all)))) a
 
-bound_found : (pairs order : List CellPair) (n : ℕ) (right : List Cell) → AreInOrder pairs order → IsAmong order (n, right) → part_in pairs n ≡ right
+bound_found : (pairs order : List CellPair) (n : ℕ) (right : List Cell) → AreInLeftOrder pairs order → IsAmong order (n, right) → part_in pairs n ≡ right
 bound_found pairs order n right h a =
     part_among pairs n right h.distinct (all_moved (IsAmong pairs) pairs order h.same (λ pair b. b) (n, right) a)
 
-bound_nowhere : (pairs order : List CellPair) (n : ℕ) → AreInOrder pairs order → All (λ pair. pair.0 ≢ n) order → part_in pairs n ≡ cell.Ind n ∷ []
+bound_nowhere : (pairs order : List CellPair) (n : ℕ) → AreInLeftOrder pairs order → All (λ pair. pair.0 ≢ n) order → part_in pairs n ≡ cell.Ind n ∷ []
 bound_nowhere pairs order n h none =
     part_none pairs n (all_moved (λ pair. pair.0 ≢ n) order pairs (IsPermutation-sym pairs order h.same)
     (λ pair a. all_at (λ p. p.0 ≢ n) order pair (recursion_from_All (λ p. p.0 ≢ n) order none) a))
 
-module _ (pairs order : List CellPair) (n : ℕ) (answer : Option (Bor (List Cell))) (h : AreInOrder pairs order) where
+module _ (pairs order : List CellPair) (n : ℕ) (answer : Option (Bor (List Cell))) (h : AreInLeftOrder pairs order) where
   pub if_found : IfSome answer (λ right. IsAmong order (n, right.now)) → IfSome answer (λ right. part_in pairs n ≡ right.now)
   if_found = by answer where
     by : (o : Option (Bor (List Cell))) → IfSome o (λ right. IsAmong order (n, right.now)) → IfSome o (λ right. part_in pairs n ≡ right.now)

@@ -15,7 +15,7 @@ use Rattle.si_tree.specs.Dropping.{Goes, Drops}
 use Rattle.si_tree.specs.Reading.{AtNode, IsNode, postings_of}
 use Rattle.si_tree.proofs.ChildLaws.{inner_no_leaf}
 use Rattle.si_tree.proofs.CountLaws.{weight, counted_changed}
-use Rattle.si_prune.specs.Pruning.{IsEmptyLeaf, IsJoinDue, LeavesUnmerged, Removes, RemovesWhole}
+use Rattle.si_prune.specs.Pruning.{IsEmptyLeaf, IsJoinDue, LeavesUnmerged, RemovesPosting, RemovesWhole}
 use Rattle.si_prune.proofs.LoseLaws.{loses_then, keeps_then}
 
 few_unmerged : (ps : List Posting) → unmerged_of (leaf ps) ≤ 1
@@ -125,7 +125,7 @@ module _ (old middle : Tree Term) (key : ℕ) (p : Posting) (drops : DropsPostin
 
 -- ---- whether all went that had to isn't told
 module _ (old new : Tree Term) (key : ℕ) (p : Posting) where
-  of_whole : RemovesWhole old new key p → Removes old new key p
+  of_whole : RemovesWhole old new key p → RemovesPosting old new key p
   of_whole whole = record {
     loses = whole.loses;
     keeps = whole.keeps;
@@ -134,7 +134,7 @@ module _ (old new : Tree Term) (key : ℕ) (p : Posting) where
     only_due = λ none. whole.unmerged;
   }
 
-  of_unmerged : LeavesUnmerged old new key p → Removes old new key p
+  of_unmerged : LeavesUnmerged old new key p → RemovesPosting old new key p
   of_unmerged left = record {
     loses = left.loses;
     keeps = left.keeps;
@@ -143,6 +143,6 @@ module _ (old new : Tree Term) (key : ℕ) (p : Posting) where
     only_due = λ none. absurd (none left.due);
   }
 
-  pub removes : {T E : Type 0} (answer : Result T E) → OnOk answer (RemovesWhole old new key p) → OnErr answer (LeavesUnmerged old new key p) → Removes old new key p
+  pub removes : {T E : Type 0} (answer : Result T E) → OnOk answer (RemovesWhole old new key p) → OnErr answer (LeavesUnmerged old new key p) → RemovesPosting old new key p
   removes (Ok done) whole unmerged = of_whole whole
   removes (Err error) whole unmerged = of_unmerged unmerged

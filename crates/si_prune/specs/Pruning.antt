@@ -60,7 +60,7 @@ unused_pairs ns bs = filter (λ b. not (list_any (λ n. n == b.0) ns)) bs
 
 -- ---- bindings in order
 -- they have other bindings in the order of their left sides, and no left side stands there twice
-pub record AreInOrder (pairs order : List CellPair) : Type 0 where
+pub record AreInLeftOrder (pairs order : List CellPair) : Type 0 where
   pub distinct : AreDistinct (left_sides pairs)
   pub same : IsPermutation pairs order
   pub rise : IsNonDecreasingBy (λ pair. pair.0) order
@@ -111,7 +111,7 @@ pub record LeavesUnmerged (old new : Tree Term) (key : ℕ) (p : Posting) : Type
 -- The leaf's term loses the posting, and other terms keep theirs. The leaf stays without a posting
 -- only where a join is due; elsewhere there are no more such leaves than before, and there one more
 -- at most.
-pub record Removes (old new : Tree Term) (key : ℕ) (p : Posting) : Type 0 where
+pub record RemovesPosting (old new : Tree Term) (key : ℕ) (p : Posting) : Type 0 where
   pub loses : (t : Term) (postings : List Posting) → IsLeaf old key t postings
       → Loses old new t p
   pub keeps : KeepsLeaves old new

@@ -1,7 +1,7 @@
 // Bindings composed, cell by cell.
 ghost use Rattle.std.specs.Prelude.{◌≡◌, ◌++◌, IfOk, IfSome, OnOk, map};
 ghost use Rattle.si_mscg.specs.Generalising.{spanless};
-ghost use Rattle.si_prune.specs.Pruning.{AreInOrder, Composes, MayCompose, carried_pairs, filled, part_in};
+ghost use Rattle.si_prune.specs.Pruning.{AreInLeftOrder, Composes, MayCompose, carried_pairs, filled, part_in};
 
 use crate::finding::{bound_to, in_order, opened_in_order, opens};
 use si_flat::{Bindings, Cell, Pair};
@@ -50,7 +50,7 @@ fn fill<'a>(
     bindings: &'a Bindings,
     order: &Option<Vec<Pair<'a>>>,
 ) -> Result<(), AllocError>
-    requires { IfSome order.now (λ pairs. AreInOrder bindings.now pairs.items) }
+    requires { IfSome order.now (λ pairs. AreInLeftOrder bindings.now pairs.items) }
     ensures { OnOk result (draft.new.items ≡ draft.old.items ++ filled bindings.now right.now) }
 {
     for cell in right {
@@ -70,7 +70,7 @@ fn fill_part<'a>(
     bindings: &'a Bindings,
     order: &Option<Vec<Pair<'a>>>,
 ) -> Result<(), AllocError>
-    requires { IfSome order.now (λ pairs. AreInOrder bindings.now pairs.items) }
+    requires { IfSome order.now (λ pairs. AreInLeftOrder bindings.now pairs.items) }
     ensures { OnOk result (draft.new.items
         ≡ draft.old.items ++ map spanless (part_in bindings.now number)) }
 {

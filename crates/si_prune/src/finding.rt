@@ -7,7 +7,7 @@ ghost use Rattle.si_defs.specs.Substitutions.{AreDistinct, IsAmong};
 ghost use Rattle.si_flat.specs.declared.Cell.TheVariants.{Ind};
 ghost use Rattle.si_flat.specs.Rows.{left_sides};
 ghost use Rattle.si_tree.specs.Numbers.{indicators_in, rights_in};
-ghost use Rattle.si_prune.specs.Pruning.{AreInOrder, AreNumbersInOrder, part_in};
+ghost use Rattle.si_prune.specs.Pruning.{AreInLeftOrder, AreNumbersInOrder, part_in};
 
 use si_flat::{Bindings, Cell, Pair};
 use std::alloc::{AllocError, Global};
@@ -21,7 +21,8 @@ pub(crate) fn in_order<'a>(
     bindings: &'a Bindings,
 ) -> Result<Option<Vec<Pair<'a>>>, AllocError>
     requires { AreDistinct (left_sides bindings.now) }
-    ensures { IfOk result (λ order. IfSome order (λ pairs. AreInOrder bindings.now pairs.items)) }
+    ensures { IfOk result
+        (λ order. IfSome order (λ pairs. AreInLeftOrder bindings.now pairs.items)) }
 {
     if bindings.len() <= FEW {
         return Ok(None);
@@ -40,7 +41,7 @@ pub(crate) fn bound_to<'a>(
     order: &Option<Vec<Pair<'a>>>,
     number: u32,
 ) -> Option<&'a [Cell]>
-    requires { IfSome order.now (λ pairs. AreInOrder bindings.now pairs.items) }
+    requires { IfSome order.now (λ pairs. AreInLeftOrder bindings.now pairs.items) }
     ensures some { IfSome result (λ right. part_in bindings.now number ≡ right.now) }
     ensures none { IfNone result (part_in bindings.now number ≡ Ind number ∷ []) }
 {

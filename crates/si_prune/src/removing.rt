@@ -4,7 +4,7 @@ ghost use Rattle.si_defs.specs.Substitutions.{IsAmong};
 ghost use Rattle.si_changes.specs.Leaves.{MayDropLeaf};
 ghost use Rattle.si_tree.specs.Changes.{HasPosting};
 ghost use Rattle.si_tree.specs.Dropping.{MayDrop};
-ghost use Rattle.si_prune.specs.Pruning.{AreToJoin, IsEmptyLeaf, IsJoinDue, LeavesUnmerged, Removes, RemovesWhole};
+ghost use Rattle.si_prune.specs.Pruning.{AreToJoin, IsEmptyLeaf, IsJoinDue, LeavesUnmerged, RemovesPosting, RemovesWhole};
 
 use crate::composing::compose;
 use si_flat::Bindings;
@@ -16,7 +16,7 @@ use std::alloc::{AllocError, Global};
 /// left for the child's new bindings, the leaf stays.
 pub fn remove(alloc: Global, tree: &mut Tree, leaf: NodeId, posting: Posting)
     requires { HasPosting tree.old leaf posting }
-    ensures { Removes tree.old tree.new leaf posting }
+    ensures { RemovesPosting tree.old tree.new leaf posting }
 {
     let _ = try_remove(alloc, tree, leaf, posting);
 }

@@ -14,7 +14,7 @@ use Rattle.si_defs.specs.declared.Side.TheVariants.{Predicate}
 use Rattle.si_lex.specs.Lexemes.{token_of, tokens_of}
 use Rattle.si_lex.specs.declared.lexeme.Lexeme.{Lexeme}
 use Rattle.si_parse.specs.GrammarRules.{IsMark, IsEquationSign, function_symbol}
-use Rattle.si_parse.specs.Parsing.{Anything, Passes, Reads, ReadsTokens, NoBracket}
+use Rattle.si_parse.specs.Parsing.{Anything, PassesTokens, Reads, ReadsTokens, NoBracket}
 use Rattle.si_parse.proofs.ParseReads.{first_token, token_at, others_of, mark_front}
 use Rattle.si_parse.proofs.ParseSteps.{parses_at}
 use Rattle.si_parse.proofs.GrammarTerms.{head_constant, constant_is, term_head}
@@ -58,7 +58,7 @@ module _ (pairs : Numbering) (tokens : List Lexeme) (a b : WalkState) where
 
   -- an atom in brackets
   pub round_read : (inside after : List Lexeme) (read : Option (Bor (List Lexeme))) → tokens_of tokens ≡ left_bracket ∷ tokens_of inside → ReadsAtom pairs inside a b after
-      → Passes (IsMark 41) after read → IfSome read (λ rest. ReadsNegated pairs tokens a b rest.now)
+      → PassesTokens (IsMark 41) after read → IfSome read (λ rest. ReadsNegated pairs tokens a b rest.now)
   round_read inside after None opens h closes = tt
   round_read inside after (Some rest) opens h closes = record {
     meant = h.meant;

@@ -11,7 +11,7 @@ pub record Draws (bound number : ℕ) (before after : Sampler) : Type 0 where
   pub text : after.text.items ≡ before.text.items
 
 -- what is drawn by the rule stands after the text
-pub record Gains (rule : Rule) (before after : Sampler) : Type 0 where
+pub record DrawsOnto (rule : Rule) (before after : Sampler) : Type 0 where
   pub piece : Bytes
   pub drawn : rule before.state piece after.state
   pub text : after.text.items ≡ before.text.items ++ piece

@@ -1,7 +1,7 @@
 // Terms, literals and clauses, drawn one after the other.
 ghost use Rattle.std.specs.Prelude.{◌≡◌, ◌<◌, [], OnOk, codes};
 ghost use Rattle.si_defs.specs.Generator.{exactly, ◌before◌, term, atom, sign, literal, literals, clause, leaves, rule_at};
-ghost use Rattle.si_sample.specs.Sampling.{Draws, Gains};
+ghost use Rattle.si_sample.specs.Sampling.{Draws, DrawsOnto};
 
 use itoa::Buffer;
 use std::alloc::{AllocError, Global};
@@ -40,7 +40,7 @@ impl Sampler {
 
     /// Draws the line of the clause with this number.
     pub fn clause(&mut self, number: u32) -> Result<(), AllocError>
-        ensures { OnOk result (Gains (clause number) self.old self.new) }
+        ensures { OnOk result (DrawsOnto (clause number) self.old self.new) }
     {
         let mut buffer = Buffer::new();
         self.put(b"cnf(s")?;
@@ -51,7 +51,7 @@ impl Sampler {
     }
 
     fn literals(&mut self) -> Result<(), AllocError>
-        ensures { OnOk result (Gains literals self.old self.new) }
+        ensures { OnOk result (DrawsOnto literals self.old self.new) }
     {
         match self.draw(2) {
             0 => self.literal(),
@@ -64,14 +64,14 @@ impl Sampler {
     }
 
     fn literal(&mut self) -> Result<(), AllocError>
-        ensures { OnOk result (Gains literal self.old self.new) }
+        ensures { OnOk result (DrawsOnto literal self.old self.new) }
     {
         self.sign()?;
         self.atom()
     }
 
     fn sign(&mut self) -> Result<(), AllocError>
-        ensures { OnOk result (Gains sign self.old self.new) }
+        ensures { OnOk result (DrawsOnto sign self.old self.new) }
     {
         match self.draw(2) {
             0 => Ok(()),
@@ -80,7 +80,7 @@ impl Sampler {
     }
 
     fn atom(&mut self) -> Result<(), AllocError>
-        ensures { OnOk result (Gains atom self.old self.new) }
+        ensures { OnOk result (DrawsOnto atom self.old self.new) }
     {
         match self.draw(2) {
             0 => self.binary(b"p(", DEPTH),
@@ -91,7 +91,7 @@ impl Sampler {
     /// Draws a term of at most this depth.
     #[cycle(terms)]
     fn term(&mut self, depth: u32) -> Result<(), AllocError>
-        ensures { OnOk result (Gains (term depth) self.old self.new) }
+        ensures { OnOk result (DrawsOnto (term depth) self.old self.new) }
     {
         if depth == 0 {
             let number = self.draw(4);
@@ -107,7 +107,7 @@ impl Sampler {
     /// Draws a term after a symbol and its bracket, and closes the bracket.
     #[cycle(terms)]
     fn unary(&mut self, head: &[u8], depth: u32) -> Result<(), AllocError>
-        ensures { OnOk result (Gains
+        ensures { OnOk result (DrawsOnto
             (exactly head.now before term depth before exactly (codes ")")) self.old self.new) }
     {
         self.put(head)?;
@@ -118,7 +118,7 @@ impl Sampler {
     /// Draws two terms after a symbol and its bracket, and closes the bracket.
     #[cycle(terms)]
     fn binary(&mut self, head: &[u8], depth: u32) -> Result<(), AllocError>
-        ensures { OnOk result (Gains
+        ensures { OnOk result (DrawsOnto
             (exactly head.now before term depth before exactly (codes ",") before term depth
             before exactly (codes ")")) self.old self.new) }
     {
@@ -132,14 +132,14 @@ impl Sampler {
     /// Writes the variable or the constant with this number.
     fn leaf(&mut self, number: u32) -> Result<(), AllocError>
         requires { number < 4 }
-        ensures { OnOk result (Gains (rule_at leaves number) self.old self.new) }
+        ensures { OnOk result (DrawsOnto (rule_at leaves number) self.old self.new) }
     {
         self.put(&[LEAVES[number as usize]])
     }
 
     /// Writes the bytes after what was drawn.
     fn put(&mut self, bytes: &[u8]) -> Result<(), AllocError>
-        ensures { OnOk result (Gains (exactly bytes.now) self.old self.new) }
+        ensures { OnOk result (DrawsOnto (exactly bytes.now) self.old self.new) }
     {
         self.text.extend_from_slice(bytes)
     }

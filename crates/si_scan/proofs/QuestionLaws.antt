@@ -11,7 +11,7 @@ use Rattle.si_form.specs.declared.solution.Binding.{Binding}
 use Rattle.si_form.specs.Answers.{Answers}
 use Rattle.si_form.proofs.SignLaws.{relates_of_canonical}
 use Rattle.si_form.proofs.Vocabularies.{with_numbers}
-use Rattle.si_scan.specs.Scans.{Wants, IsReady, numbers_of}
+use Rattle.si_scan.specs.Scans.{Wants, IsReadyToScan, numbers_of}
 use Rattle.si_scan.specs.declared.question.Question.{Question}
 
 pub says_yes : (P : Type 0) → P → IsTrue true ↔ P
@@ -24,7 +24,7 @@ module _ (q : Question) (e : Entry) (held : List Cell) (flat : StandsFor held (n
   pub none_wanted : Answers q.relation q.query held None → Wants q e → ⊥
   none_wanted told w = told w.term (numbered_entry (numbers_of q) entry e) w.stands flat w.relates
 
-  pub some_wanted : (list : List Binding) → IsReady q → is_literal e ≡ q.literal → Answers q.relation q.query held (Some list) → Wants q e
+  pub some_wanted : (list : List Binding) → IsReadyToScan q → is_literal e ≡ q.literal → Answers q.relation q.query held (Some list) → Wants q e
   some_wanted list ready kind told =
       let answer = told ready.0 (numbered_entry (numbers_of q) entry e) ready.1 flat in
       record {

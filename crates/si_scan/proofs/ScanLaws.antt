@@ -19,7 +19,7 @@ use Rattle.si_term.proofs.Rows.{from, from-read, from-end, app-term}
 use Rattle.si_keyed.specs.Keyed.{item_keys}
 use Rattle.si_legal.specs.declared.Posting.{Posting}
 use Rattle.si_index.specs.Kept.{paired, clauses_of}
-use Rattle.si_scan.specs.Scans.{posted, AreOfWanted, Adds}
+use Rattle.si_scan.specs.Scans.{posted, AreOfWanted, AddsWanted}
 use Rattle.si_scan.proofs.PostedLaws.{posted_append}
 
 -- ---- what was added
@@ -29,42 +29,42 @@ module _ (W : Entry → Type 0) where
   wanted_append (x ∷ xs) ys ps qs (inl h) k = inl (h.0, (h.1.0 ++ qs, wanted_append xs ys h.1.0 qs h.1.1 k, ap (λ l. l ++ qs) h.1.2))
   wanted_append (x ∷ xs) ys ps qs (inr h) k = inr (h.0, wanted_append xs ys ps qs h.1 k)
 
-  pub adds_none : (old : List Posting) → Adds W [] old old
+  pub adds_none : (old : List Posting) → AddsWanted W [] old old
   adds_none old = record { more = []; appended = sym (append-nil old); wanted = refl }
 
-  pub adds_then : (xs ys : List (Posting × Entry)) (a b c : List Posting) → Adds W xs a b → Adds W ys b c → Adds W (xs ++ ys) a c
+  pub adds_then : (xs ys : List (Posting × Entry)) (a b c : List Posting) → AddsWanted W xs a b → AddsWanted W ys b c → AddsWanted W (xs ++ ys) a c
   adds_then xs ys a b c h k = record {
     more = h.more ++ k.more;
     appended = k.appended ∙ ap (λ l. l ++ k.more) h.appended ∙ append_assoc a h.more k.more;
     wanted = wanted_append xs ys h.more k.more h.wanted k.wanted;
   }
 
-  pub adds_one : (x : Posting × Entry) (old new : List Posting) → W x.1 → new ≡ old ++ x.0 ∷ [] → Adds W (x ∷ []) old new
+  pub adds_one : (x : Posting × Entry) (old new : List Posting) → W x.1 → new ≡ old ++ x.0 ∷ [] → AddsWanted W (x ∷ []) old new
   adds_one x old new w pushed = record { more = x.0 ∷ []; appended = pushed; wanted = inl (w, ([], refl, refl)) }
 
-  pub adds_no : (x : Posting × Entry) (old : List Posting) → (W x.1 → ⊥) → Adds W (x ∷ []) old old
+  pub adds_no : (x : Posting × Entry) (old : List Posting) → (W x.1 → ⊥) → AddsWanted W (x ∷ []) old old
   adds_no x old fails = record { more = []; appended = sym (append-nil old); wanted = inr (fails, refl) }
 
   -- ---- a loop that has passed the first of some entries
   pub record SoFar (left all : List (Posting × Entry)) (old now : List Posting) : Type 0 where
     pub passed : List (Posting × Entry)
     pub whole : all ≡ passed ++ left
-    pub adds : Adds W passed old now
+    pub adds : AddsWanted W passed old now
 
   pub so_far_start : (all : List (Posting × Entry)) (old : List Posting) → SoFar all all old old
   so_far_start all old = record { passed = []; whole = refl; adds = adds_none old }
 
-  pub so_far_more : (left piece rest all : List (Posting × Entry)) (a b c : List Posting) → left ≡ piece ++ rest → SoFar left all a b → Adds W piece b c → SoFar rest all a c
+  pub so_far_more : (left piece rest all : List (Posting × Entry)) (a b c : List Posting) → left ≡ piece ++ rest → SoFar left all a b → AddsWanted W piece b c → SoFar rest all a c
   so_far_more left piece rest all a b c step h k = record {
     passed = h.passed ++ piece;
     whole = h.whole ∙ ap (λ l. h.passed ++ l) step ∙ sym (append_assoc h.passed piece rest);
     adds = adds_then h.passed piece a b c h.adds k;
   }
 
-  pub so_far_end : (left all : List (Posting × Entry)) (a b : List Posting) → left ≡ [] → SoFar left all a b → Adds W all a b
-  so_far_end left all a b none h = subst (λ l. Adds W l a b) (sym (h.whole ∙ ap (λ l. h.passed ++ l) none ∙ append-nil h.passed)) h.adds
+  pub so_far_end : (left all : List (Posting × Entry)) (a b : List Posting) → left ≡ [] → SoFar left all a b → AddsWanted W all a b
+  so_far_end left all a b none h = subst (λ l. AddsWanted W l a b) (sym (h.whole ∙ ap (λ l. h.passed ++ l) none ∙ append-nil h.passed)) h.adds
 
-  pub added_all : (xs : List (Posting × Entry)) (new : List Posting) → Adds W xs [] new → AreOfWanted W xs new
+  pub added_all : (xs : List (Posting × Entry)) (new : List Posting) → AddsWanted W xs [] new → AreOfWanted W xs new
   added_all xs new h = subst (AreOfWanted W xs) (sym h.appended) h.wanted
 
 -- ---- subterms
@@ -91,18 +91,18 @@ terms_none ts i past = ap (λ us. length (subterms_of_all us)) (from-end ts i pa
 
 -- a term that is an application, and its subterms
 pub application_added : (W : Entry → Type 0) (key n : ℕ) (t : program.Term) (f : symbol.Sym) (args : List Term) (us : List program.Term) (a b c : List Posting) → t ≡ App f args → map term_of us ≡ args
-    → Adds W (posted key n (term_entry (term_of t) ∷ [])) a b
-    → Adds W (posted key (n + 1) (map term_entry (subterms_of_all (terms.row (map term_of us))))) b c
-    → Adds W (posted key n (map term_entry (subterms (term_of t)))) a c
+    → AddsWanted W (posted key n (term_entry (term_of t) ∷ [])) a b
+    → AddsWanted W (posted key (n + 1) (map term_entry (subterms_of_all (terms.row (map term_of us))))) b c
+    → AddsWanted W (posted key n (map term_entry (subterms (term_of t)))) a c
 application_added W key n t f args us a b c is seen own rest =
     let whole : term_of t ≡ terms.app (symbol_of f) (terms.row (map term_of us)) = app-term t f args us is seen in
     let turn : n + 1 ≡ 1 + n = omega arith in
     let inside = map term_entry (subterms_of_all (terms.row (map term_of us))) in
     let first : Posting × Entry = (record { clause = key; entry = n }, term_entry (terms.app (symbol_of f) (terms.row (map term_of us)))) in
-    subst (λ u. Adds W (posted key n (map term_entry (subterms u))) a c) (sym whole)
+    subst (λ u. AddsWanted W (posted key n (map term_entry (subterms u))) a c) (sym whole)
     (adds_then W (first ∷ []) (posted key (1 + n) inside) a b c
-    (subst (λ u. Adds W (posted key n (term_entry u ∷ [])) a b) whole own)
-    (subst (λ m. Adds W (posted key m inside) b c) turn rest))
+    (subst (λ u. AddsWanted W (posted key n (term_entry u ∷ [])) a b) whole own)
+    (subst (λ m. AddsWanted W (posted key m inside) b c) turn rest))
 
 pub inside_count : (t : program.Term) (f : symbol.Sym) (args : List Term) (us : List program.Term) → t ≡ App f args → map term_of us ≡ args
     → length (subterms (term_of t)) ≡ 1 + length (subterms_of_all (terms.row (map term_of us)))
@@ -121,15 +121,15 @@ literal_count l f args us is seen =
     omega (arith, ap length (literal_alone l f args us is seen), length-map (subterms_of_all (terms.row (map term_of us))) term_entry)
 
 pub literal_added : (W : Entry → Type 0) (key n : ℕ) (l : program_literal.Literal) (f : symbol.Sym) (args : List Term) (us : List program.Term) (a b c : List Posting) → l.atom ≡ App f args → map term_of us ≡ args
-    → Adds W (posted key n (literal_entry (literal_of l) ∷ [])) a b
-    → Adds W (posted key (n + 1) (map term_entry (subterms_of_all (terms.row (map term_of us))))) b c
-    → Adds W (posted key n (entries_alone (literal_of l ∷ []))) a c
+    → AddsWanted W (posted key n (literal_entry (literal_of l) ∷ [])) a b
+    → AddsWanted W (posted key (n + 1) (map term_entry (subterms_of_all (terms.row (map term_of us))))) b c
+    → AddsWanted W (posted key n (entries_alone (literal_of l ∷ []))) a c
 literal_added W key n l f args us a b c is seen own rest =
     let turn : n + 1 ≡ 1 + n = omega arith in
     let inside = map term_entry (subterms_of_all (terms.row (map term_of us))) in
-    subst (λ es. Adds W (posted key n es) a c) (sym (literal_alone l f args us is seen))
+    subst (λ es. AddsWanted W (posted key n es) a c) (sym (literal_alone l f args us is seen))
     (adds_then W (posted key n (literal_entry (literal_of l) ∷ [])) (posted key (1 + n) inside) a b c own
-    (subst (λ m. Adds W (posted key m inside) b c) turn rest))
+    (subst (λ m. AddsWanted W (posted key m inside) b c) turn rest))
 
 -- ---- literals
 abbrev pub literals_from : List program_literal.Literal → ℕ → List Literal

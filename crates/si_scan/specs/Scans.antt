@@ -14,7 +14,7 @@ use Rattle.si_flat.specs.Flattened.{numbered_entry}
 use Rattle.si_legal.specs.declared.Posting.{Posting}
 use Rattle.si_legal.specs.KeptTrees.{is_literal, IsPostingOf}
 use Rattle.si_index.specs.Kept.{Kept, kept_clauses}
-use Rattle.si_index.specs.Engines.{IsWanted}
+use Rattle.si_index.specs.Engines.{IsWantedEntry}
 use Rattle.si_index.specs.Searching.{IsKnownClause}
 use Rattle.si_scan.specs.declared.question.Question.{Question}
 
@@ -23,11 +23,11 @@ abbrev pub numbers_of : Question → Numbering
 numbers_of q = numbering q.signature.now
 
 abbrev pub Wants : Question → Entry → Type 0
-Wants q e = IsWanted (numbers_of q) q.literal q.relation q.query e
+Wants q e = IsWantedEntry (numbers_of q) q.literal q.relation q.query e
 
 -- its query is one term
-abbrev pub IsReady : Question → Type 0
-IsReady q = IsWhole q.query
+abbrev pub IsReadyToScan : Question → Type 0
+IsReadyToScan q = IsWhole q.query
 
 -- it is asked with the numbers of the index, which has one for each symbol
 pub record IsOver (kept : Kept) (q : Question) : Type 0 where
@@ -53,7 +53,7 @@ AreOfWanted W (x ∷ xs) ps =
     ⊎ ((W x.1 → ⊥) × AreOfWanted W xs ps)
 
 -- these were added
-pub record Adds (W : Entry → Type 0) (xs : List (Posting × Entry))
+pub record AddsWanted (W : Entry → Type 0) (xs : List (Posting × Entry))
     (old new : List Posting) : Type 0 where
   pub more : List Posting
   pub appended : new ≡ old ++ more

@@ -3,7 +3,7 @@ ghost use Rattle.std.specs.Prelude.{◌≡◌, ◌↔◌, IsTrue, IfOk};
 ghost use Rattle.si_term.specs.Meaning.{entry_of};
 ghost use Rattle.si_legal.specs.KeptTrees as kept_trees;
 ghost use Rattle.si_index.specs.Searching.{IsKnownEntry};
-ghost use Rattle.si_scan.specs.Scans.{IsReady, Wants, numbers_of};
+ghost use Rattle.si_scan.specs.Scans.{IsReadyToScan, Wants, numbers_of};
 
 use si_defs::Relation;
 use si_flat::EntryBuffer;
@@ -57,7 +57,7 @@ impl<'a> Question<'a> {
         workspace: &mut Workspace<'a>,
         entry: Entry<'a>,
     ) -> Result<bool, AllocError>
-        requires ready { IsReady self.now }
+        requires ready { IsReadyToScan self.now }
         requires known { IsKnownEntry (numbers_of self.now) (entry_of entry) }
         ensures { IfOk result (λ b. IsTrue b ↔ Wants self.now (entry_of entry.entry)) }
     {

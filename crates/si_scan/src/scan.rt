@@ -8,7 +8,7 @@ ghost use Rattle.si_term.specs.Meaning.{literal_of, clause_of, entry_of};
 ghost use Rattle.si_term.specs.Walks.{subterms, subterms_of_all, entries_alone};
 ghost use Rattle.si_index.specs.Kept.{kept_clauses};
 ghost use Rattle.si_index.specs.Searching.{IsKnownTerm, AreKnownTerms, IsKnownEntry, IsKnownClause};
-ghost use Rattle.si_scan.specs.Scans.{IsReady, IsOver, Wants, numbers_of, posted, all_posted, AreOfWanted, Adds};
+ghost use Rattle.si_scan.specs.Scans.{IsReadyToScan, IsOver, Wants, numbers_of, posted, all_posted, AreOfWanted, AddsWanted};
 
 use crate::question::{Question, Workspace};
 use si_defs::Relation;
@@ -94,9 +94,10 @@ fn try_entry<'a>(
     entry: Entry<'a>,
     gathered: &mut Gathered<'a>,
 ) -> Result<(), AllocError>
-    requires ready { IsReady question.now }
+    requires ready { IsReadyToScan question.now }
     requires known { IsKnownEntry (numbers_of question.now) (entry_of entry) }
-    ensures { OnOk result (Adds (Wants question.now) (posted key number (entry_of entry.entry ∷ []))
+    ensures { OnOk result (AddsWanted (Wants question.now)
+        (posted key number (entry_of entry.entry ∷ []))
         gathered.old.found.items gathered.new.found.items) }
 {
     if !question.is_answered(&mut gathered.workspace, entry)? {
@@ -119,11 +120,11 @@ fn scan_term<'a>(
     term: &'a Term,
     gathered: &mut Gathered<'a>,
 ) -> Result<u32, AllocError>
-    requires ready { IsReady question.now }
+    requires ready { IsReadyToScan question.now }
     requires known { IsKnownTerm (numbers_of question.now) (term_of term.now) }
     requires few { number + length (subterms (term_of term.now)) ≤ MOST_OCCURRENCES }
     ensures next { IfOk result (λ n. n ≡ number + length (subterms (term_of term.now))) }
-    ensures adds { OnOk result (Adds (Wants question.now)
+    ensures adds { OnOk result (AddsWanted (Wants question.now)
         (posted key number (map term_entry (subterms (term_of term.now))))
         gathered.old.found.items gathered.new.found.items) }
 {
@@ -143,13 +144,13 @@ fn scan_terms<'a>(
     terms: &'a [Term],
     gathered: &mut Gathered<'a>,
 ) -> Result<u32, AllocError>
-    requires ready { IsReady question.now }
+    requires ready { IsReadyToScan question.now }
     requires known { AreKnownTerms (numbers_of question.now) (row (map term_of terms.now)) }
     requires few { number + length (subterms_of_all (row (map term_of terms.now)))
         ≤ MOST_OCCURRENCES }
     ensures next { IfOk result (λ n. n
         ≡ number + length (subterms_of_all (row (map term_of terms.now)))) }
-    ensures adds { OnOk result (Adds (Wants question.now)
+    ensures adds { OnOk result (AddsWanted (Wants question.now)
         (posted key number (map term_entry (subterms_of_all (row (map term_of terms.now)))))
         gathered.old.found.items gathered.new.found.items) }
 {
@@ -168,14 +169,14 @@ fn scan_literal<'a>(
     literal: &'a Literal,
     gathered: &mut Gathered<'a>,
 ) -> Result<u32, AllocError>
-    requires ready { IsReady question.now }
+    requires ready { IsReadyToScan question.now }
     requires known { IsKnownEntry (numbers_of question.now)
         (literal_entry (literal_of literal.now)) }
     requires few { number + length (entries_alone (literal_of literal.now ∷ []))
         ≤ MOST_OCCURRENCES }
     ensures next { IfOk result (λ n. n
         ≡ number + length (entries_alone (literal_of literal.now ∷ []))) }
-    ensures adds { OnOk result (Adds (Wants question.now)
+    ensures adds { OnOk result (AddsWanted (Wants question.now)
         (posted key number (entries_alone (literal_of literal.now ∷ [])))
         gathered.old.found.items gathered.new.found.items) }
 {
@@ -193,9 +194,9 @@ fn scan_clause<'a>(
     clause: &'a Clause,
     gathered: &mut Gathered<'a>,
 ) -> Result<(), AllocError>
-    requires ready { IsReady question.now }
+    requires ready { IsReadyToScan question.now }
     requires known { IsKnownClause (numbers_of question.now) (clause_of clause.now) }
-    ensures { OnOk result (Adds (Wants question.now)
+    ensures { OnOk result (AddsWanted (Wants question.now)
         (posted key 0 (entries_alone (clause_of clause.now).literals))
         gathered.old.found.items gathered.new.found.items) }
 {
@@ -213,7 +214,7 @@ fn gather<'a>(
     index: &'a Index,
     question: &Question<'a>,
 ) -> Result<Vec<Posting>, AllocError>
-    requires ready { IsReady question.now }
+    requires ready { IsReadyToScan question.now }
     requires over { IsOver index.now question.now }
     ensures { IfOk result (λ found. AreOfWanted (Wants question.now)
         (all_posted (kept_clauses index.now)) found.items) }

@@ -18,18 +18,18 @@ use Rattle.si_term.proofs.Inserted.{swapped, inserted-append, inserted-firsts, i
 use Rattle.si_flat.specs.Numbered.{number_in}
 use Rattle.si_flat.specs.Flattened.{has_number, unnumbered, numbers_from, extra_numbers}
 use Rattle.si_screen.specs.ClauseRows.{lacking}
-use Rattle.si_screen.specs.Walks.{symbol_of_key, Meets}
+use Rattle.si_screen.specs.Walks.{symbol_of_key, MeetsSymbols}
 use Rattle.si_screen.specs.declared.extra.Key.{Key}
 
 -- ---- symbols that are met, one after the other
-pub meets_then : (pairs : Numbering) (ss rs : List Symbol) (a b c : List Symbol) → Meets pairs ss a b → Meets pairs rs b c → Meets pairs (ss ++ rs) a c
+pub meets_then : (pairs : Numbering) (ss rs : List Symbol) (a b c : List Symbol) → MeetsSymbols pairs ss a b → MeetsSymbols pairs rs b c → MeetsSymbols pairs (ss ++ rs) a c
 meets_then pairs ss rs a b c first rest =
     rest
     ∙ ap (λ l. insert_all same_symbol l (unnumbered pairs rs)) first
     ∙ sym (inserted-append same_symbol a (unnumbered pairs ss) (unnumbered pairs rs))
     ∙ ap (insert_all same_symbol a) (sym (filter-append (λ s. not (has_number pairs s)) ss rs))
 
-pub met_lacking : (pairs : Numbering) (ls : List Literal) (extra : List Symbol) → Meets pairs (literals_symbols ls) [] extra → extra ≡ lacking pairs ls
+pub met_lacking : (pairs : Numbering) (ls : List Literal) (extra : List Symbol) → MeetsSymbols pairs (literals_symbols ls) [] extra → extra ≡ lacking pairs ls
 met_lacking pairs ls extra met = met ∙ inserted-firsts same_symbol symbol-Decides (unnumbered pairs (literals_symbols ls))
 
 -- ---- there are no more of them than symbols in the literals
@@ -39,7 +39,7 @@ symbols_few (l ∷ ls) sound =
     let c : Clause = record { name = record { kind = Word; text = [] }; role = []; literals = l ∷ ls } in
     omega (arith, length-symbols c (record { some = λ e. cc; sound = sound }), entries_few 1 (l ∷ ls), sound.no_larger)
 
-pub extra_few : (pairs : Numbering) (ls : List Literal) (extra : List Symbol) → AreSoundLiterals ls → Meets pairs (literals_symbols ls) [] extra → length extra ≤ MOST_OCCURRENCES
+pub extra_few : (pairs : Numbering) (ls : List Literal) (extra : List Symbol) → AreSoundLiterals ls → MeetsSymbols pairs (literals_symbols ls) [] extra → length extra ≤ MOST_OCCURRENCES
 extra_few pairs ls extra sound met =
     let ss = literals_symbols ls in
     let test = λ (s : Symbol). not (has_number pairs s) in

@@ -14,7 +14,7 @@ use Rattle.si_flat.specs.Numbered.{number_in}
 use Rattle.si_flat.specs.Flattened.{extra_numbers}
 use Rattle.si_flat.proofs.Numbers.{has-among, number-append}
 use Rattle.si_lanes.specs.Rows.{HasBit}
-use Rattle.si_screen.specs.ClauseRows.{above, number_at, head_number, head_numbers, bit_of, HasNumbers, IsRowOf, with_extra}
+use Rattle.si_screen.specs.ClauseRows.{above, number_if_any, head_number, head_numbers, bit_of, HasNumbers, IsRowOf, with_extra}
 use Rattle.si_screen.specs.Walks.{AddsNumbers, atom_numbers, literal_numbers, literals_numbers}
 
 -- ---- what is added to a row
@@ -85,15 +85,15 @@ module _ (number : Symbol → ℕ) where
 module _ (number : Symbol → ℕ) where
   abbrev heads : {V : Type 0} → List (List ℕ × Term Symbol V) → List ℕ
   heads [] = []
-  heads (o ∷ os) = number_at number (head o.1) ++ heads os
+  heads (o ∷ os) = number_if_any number (head o.1) ++ heads os
 
   heads_append : {V : Type 0} (os ps : List (List ℕ × Term Symbol V)) → heads (os ++ ps) ≡ heads os ++ heads ps
   heads_append [] ps = refl
-  heads_append (o ∷ os) ps = ap (λ l. number_at number (head o.1) ++ l) (heads_append os ps) ∙ sym (append_assoc (number_at number (head o.1)) (heads os) (heads ps))
+  heads_append (o ∷ os) ps = ap (λ l. number_if_any number (head o.1) ++ l) (heads_append os ps) ∙ sym (append_assoc (number_if_any number (head o.1)) (heads os) (heads ps))
 
   heads_below : {V : Type 0} (k : ℕ) (os : List (List ℕ × Term Symbol V)) → heads (map (below k) os) ≡ heads os
   heads_below k [] = refl
-  heads_below k (o ∷ os) = ap (λ l. number_at number (head o.1) ++ l) (heads_below k os)
+  heads_below k (o ∷ os) = ap (λ l. number_if_any number (head o.1) ++ l) (heads_below k os)
 
   mutual
     first_heads : {V : Type 0} (t : Term Symbol V) → heads (occurrences t) ≡ map number (symbols t)
@@ -109,7 +109,7 @@ module _ (number : Symbol → ℕ) where
 
   placed_heads : (k : ℕ) (os : List (List ℕ × clauses.Term)) → head_numbers number (map (placed_term k) os) ≡ heads os
   placed_heads k [] = refl
-  placed_heads k (o ∷ os) = ap (λ l. number_at number (head o.1) ++ l) (placed_heads k os)
+  placed_heads k (o ∷ os) = ap (λ l. number_if_any number (head o.1) ++ l) (placed_heads k os)
 
   heads_parts : (xs ys : List Placed) → head_numbers number (xs ++ ys) ≡ head_numbers number xs ++ head_numbers number ys
   heads_parts [] ys = refl

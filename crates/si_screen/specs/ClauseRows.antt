@@ -15,14 +15,14 @@ above true n = n
 above false n = 1 + n
 
 -- the number of a symbol, if there is one
-abbrev pub number_at : (Symbol → ℕ) → Option Symbol → List ℕ
-number_at number None = []
-number_at number (Some s) = number s ∷ []
+abbrev pub number_if_any : (Symbol → ℕ) → Option Symbol → List ℕ
+number_if_any number None = []
+number_if_any number (Some s) = number s ∷ []
 
 -- the number of an entry's head
 abbrev pub head_number : (Symbol → ℕ) → Entry → List ℕ
-head_number number (literal_entry l) = map (above l.positive) (number_at number (head l.atom))
-head_number number (term_entry t) = number_at number (head t)
+head_number number (literal_entry l) = map (above l.positive) (number_if_any number (head l.atom))
+head_number number (term_entry t) = number_if_any number (head t)
 
 -- those of the heads of these entries
 abbrev pub head_numbers : (Symbol → ℕ) → List Placed → List ℕ

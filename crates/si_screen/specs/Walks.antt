@@ -34,5 +34,5 @@ abbrev pub symbol_of_key : Key → Symbol
 symbol_of_key k = symbol_of k.symbol.now
 
 -- these symbols were met: those that the table lacks are there, each once
-abbrev pub Meets : Numbering → List Symbol → (old new : List Symbol) → Type 0
-Meets pairs ss old new = new ≡ insert_all same_symbol old (unnumbered pairs ss)
+abbrev pub MeetsSymbols : Numbering → List Symbol → (old new : List Symbol) → Type 0
+MeetsSymbols pairs ss old new = new ≡ insert_all same_symbol old (unnumbered pairs ss)

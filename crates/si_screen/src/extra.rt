@@ -14,7 +14,7 @@ ghost use Rattle.si_term.specs.Meaning.{literal_of};
 ghost use Rattle.si_flat.specs.Numbered.{number_in};
 ghost use Rattle.si_flat.specs.Flattened.{extra_numbers};
 ghost use Rattle.si_screen.specs.ClauseRows.{lacking};
-ghost use Rattle.si_screen.specs.Walks.{symbol_of_key, Meets};
+ghost use Rattle.si_screen.specs.Walks.{symbol_of_key, MeetsSymbols};
 
 use indexmap::IndexSet;
 use si_flat::FIRST_EXTRA;
@@ -129,7 +129,7 @@ fn meet_term<'a, T: SymTable>(
     term: &'a Term,
     extra: &mut Extra<'a>,
 ) -> Result<(), AllocError>
-    ensures { OnOk result (Meets (T.pairs table.now) (symbols (term_of term.now)) extra.old
+    ensures { OnOk result (MeetsSymbols (T.pairs table.now) (symbols (term_of term.now)) extra.old
         extra.new) }
 {
     match term {
@@ -147,8 +147,8 @@ fn meet_terms<'a, T: SymTable>(
     terms: &'a [Term],
     extra: &mut Extra<'a>,
 ) -> Result<(), AllocError>
-    ensures { OnOk result (Meets (T.pairs table.now) (symbols_of_all (row (map term_of terms.now)))
-        extra.old extra.new) }
+    ensures { OnOk result (MeetsSymbols (T.pairs table.now)
+        (symbols_of_all (row (map term_of terms.now))) extra.old extra.new) }
 {
     for i in 0..terms.len() {
         meet_term(table, &terms[i], extra)?;
@@ -162,7 +162,7 @@ fn meet_symbol<'a, T: SymTable>(
     symbol: &'a Sym,
     extra: &mut Extra<'a>,
 ) -> Result<(), AllocError>
-    ensures { OnOk result (Meets (T.pairs table.now) (symbol_of symbol.now ∷ []) extra.old
+    ensures { OnOk result (MeetsSymbols (T.pairs table.now) (symbol_of symbol.now ∷ []) extra.old
         extra.new) }
 {
     match table.id_of(symbol) {

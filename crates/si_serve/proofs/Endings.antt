@@ -23,20 +23,20 @@ use Rattle.si_serve.specs.Status.{status_of}
 use Rattle.clap.specs.Words.{Row, matches_of, takes}
 use Rattle.si_serve.specs.Words.{Asked, IsReadAsSaid, program, asked_in, asked_by, HasNoFault, has_strict, files_in}
 use Rattle.si_serve.specs.Serve.{DeclinesOrServes, WritesUsage, WritesTo, MetEnd, TellsEnd, TellsNoEnd, ReadsNoFurther, Ends, Serves, CountsFaults, HasCauses, BlamesSink}
-use Rattle.si_serve.specs.Progress.{Advances, Fails, Closes, Cuts, CountsStop, HasProgressed}
+use Rattle.si_serve.specs.Progress.{CarriesOn, Fails, Closes, CutsRun, CountsStop, HasProgressed}
 use Rattle.si_serve.proofs.Splitting.{Splits_none}
 
 -- ---- how it stands
 -- a read gave these bytes, which were acted on
 pub Stands_more : (setting : Setting) (told : Option Files) (strict : Bool) (files : List Bytes) (given : Setting) (tell : Option Files) (n m : ℕ) (bytes fed : Bytes) (source now next : SourceShown) (before : Around) (old new : State) (held holds : Bytes) (x after : Around)
     → HasProgressed setting told strict files n source now before old held x → given ≡ setting → tell ≡ told → Gives now bytes next → TellsNoEnd now next → length bytes ≡ m → fed ≡ bytes
-    → Advances given tell strict fed old held x new holds after → HasProgressed setting told strict files (n + m) source next before new holds after
+    → CarriesOn given tell strict fed old held x new holds after → HasProgressed setting told strict files (n + m) source next before new holds after
 Stands_more setting told strict files given tell n m bytes fed source now next before old new held holds x after s same known gives unended size is advances = record {
   taken = s.taken ++ bytes;
   size = omega (arith, length-append s.taken bytes, s.size);
   gives = Gives_then source now next s.taken bytes s.gives gives;
   unended = unended ∙ s.unended;
-  progress = (let more : Advances setting told strict bytes old held x new holds after = subst (λ (b : Bytes). Advances setting told strict b old held x new holds after) is (subst (λ (l : Setting). Advances l told strict fed old held x new holds after) same (subst (λ (o : Option Files). Advances given o strict fed old held x new holds after) known advances)) in
+  progress = (let more : CarriesOn setting told strict bytes old held x new holds after = subst (λ (b : Bytes). CarriesOn setting told strict b old held x new holds after) is (subst (λ (l : Setting). CarriesOn l told strict fed old held x new holds after) same (subst (λ (o : Option Files). CarriesOn given o strict fed old held x new holds after) known advances)) in
       more files before s.taken s.progress);
 }
 
@@ -206,9 +206,9 @@ Serves_ended setting told strict files given tell n source now next before state
 -- and then the run stopped at the last line
 pub Serves_cut : (halt : Stop) (setting : Setting) (told : Option Files) (strict : Bool) (files : List Bytes) (given : Setting) (tell : Option Files) (n : ℕ) (source now next : SourceShown) (before : Around) (state : State) (held : Bytes) (x after : Around)
     → HasProgressed setting told strict files n source now before state held x → given ≡ setting → tell ≡ told → n < setting.limits.session → Gives now [] next → TellsEnd now next → IsAtEnd now.left
-    → Cuts halt given tell strict state held x after → Serves setting told strict files (status_of halt) source next before after
+    → CutsRun halt given tell strict state held x after → Serves setting told strict files (status_of halt) source next before after
 Serves_cut halt setting told strict files given tell n source now next before state held x after s same known below gives told_end ended cuts =
-    let all : Cuts halt setting told strict state held x after = subst (λ (l : Setting). Cuts halt l told strict state held x after) same (subst (λ (o : Option Files). Cuts halt given o strict state held x after) known cuts) in
+    let all : CutsRun halt setting told strict state held x after = subst (λ (l : Setting). CutsRun halt l told strict state held x after) same (subst (λ (o : Option Files). CutsRun halt given o strict state held x after) known cuts) in
     let cut = all files before s.taken s.progress in
     let left_is = end_left now.left next.left [] gives.left refl in
     record {

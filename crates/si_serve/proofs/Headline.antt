@@ -5,7 +5,7 @@ use Rattle.std.specs.Prelude.{◌↔◌}
 use Rattle.si_defs.specs.Bytes.{Bytes}
 use Rattle.si_steps.specs.Settings.{Setting}
 use Rattle.si_steps.specs.Loads.{Owed}
-use Rattle.si_steps.specs.Runs.{Splits, lines_at_end, requests, IsOutput}
+use Rattle.si_steps.specs.Runs.{SplitsLines, lines_at_end, requests, IsOutput}
 use Rattle.si_state.specs.Harvest.{Files}
 use Rattle.si_session.specs.Session.{Around}
 use Rattle.si_io.specs.Shown.{SourceShown}
@@ -21,7 +21,7 @@ use Rattle.si_serve.specs.Serve.{Ends, Serves, CountsOwed}
 pub record WritesOutput (setting : Setting) (told : Option Files) (strict : Bool) (files : List Bytes) (input had : Bytes) (before after : Around) : Type 0 where
   pub lines : List Bytes
   pub rest : Bytes
-  pub splits : Splits input lines rest
+  pub splits : SplitsLines input lines rest
   pub output : Bytes
   pub owed : Owed
   pub right : IsOutput setting told strict (requests files (lines_at_end lines rest)) output owed
@@ -34,7 +34,7 @@ pub whole_run : (setting : Setting) (told : Option Files) (strict : Bool) (files
 whole_run setting told strict files input had source now before after known whole s = record {
   lines = s.lines;
   rest = s.rest;
-  splits = subst (λ (b : Bytes). Splits b s.lines s.rest) (sym (Takes_all (Some input) now.left s.taken (subst (λ (o : Option Bytes). Takes o s.taken now.left) whole s.gives.left) s.ends.1.at_end)) s.splits;
+  splits = subst (λ (b : Bytes). SplitsLines b s.lines s.rest) (sym (Takes_all (Some input) now.left s.taken (subst (λ (o : Option Bytes). Takes o s.taken now.left) whole s.gives.left) s.ends.1.at_end)) s.splits;
   output = s.ends.2.output;
   owed = s.ends.2.owed;
   right = s.ends.2.right;

@@ -7,7 +7,7 @@ use Rattle.si_steps.specs.declared.limits.Limits.{Limits}
 use Rattle.si_steps.specs.Settings.{Setting}
 use Rattle.si_steps.specs.Replies.{Reply, is_refusal}
 use Rattle.si_steps.specs.Steps.{Step}
-use Rattle.si_steps.specs.Runs.{ended, IsOneLine, Splits, lines_at_end, Request, a_line, requests, GoesOn}
+use Rattle.si_steps.specs.Runs.{ended, IsOneLine, SplitsLines, lines_at_end, Request, a_line, requests, GoesOn}
 use Rattle.si_state.specs.States.{State, empty_state}
 use Rattle.si_state.specs.Harvest.{Files}
 use Rattle.si_steps.specs.Loads.{Owed, nothing, together}
@@ -19,7 +19,7 @@ use Rattle.si_session.specs.Session.{View, Around, Writes, Steps, CountsSinkFaul
 use Rattle.si_session.proofs.Owing.{counts_nothing, counts_then}
 use Rattle.si_session.specs.declared.stepped.Stepped.{Stepped}
 use Rattle.si_session.specs.declared.stepped.Stepped.TheVariants.{Answered, Refused, Silent, SinkFailed}
-use Rattle.si_serve.specs.Progress.{shown, Judges, ActsOnRequest, Breaks, Progress, Advances, Feeds, Fails, Closes, Cuts, CountsStop, ActsOrStops}
+use Rattle.si_serve.specs.Progress.{shown, Judges, ActsOnRequest, Breaks, Progress, CarriesOn, Feeds, Fails, Closes, CutsRun, CountsStop, ActsOrStops}
 use Rattle.si_serve.specs.declared.status.Stop.{Stop}
 use Rattle.si_serve.specs.declared.status.Stop.TheVariants as stop
 use Rattle.si_serve.specs.Serve.{CountsOwed, StopsAt, WritesTo, BlamesSink}
@@ -52,17 +52,17 @@ take-take-append (suc n) [] ys = refl
 take-take-append (suc n) (x ∷ xs) ys = ap (λ (l : Bytes). x ∷ l) (take-take-append n xs ys)
 
 -- ---- progress
-pub Advances_none : (setting : Setting) (told : Option Files) (strict : Bool) (state : State) (held : Bytes) (now : Around) → Advances setting told strict [] state held now state held now
+pub Advances_none : (setting : Setting) (told : Option Files) (strict : Bool) (state : State) (held : Bytes) (now : Around) → CarriesOn setting told strict [] state held now state held now
 Advances_none setting told strict state held now files before taken p = subst (λ (b : Bytes). Progress setting told strict files before b state held now) (sym (append-nil taken)) p
 
 pub Advances_then : (setting : Setting) (told : Option Files) (strict : Bool) (bs cs : Bytes) (s t u : State) (f g h : Bytes) (x y z : Around)
-    → Advances setting told strict bs s f x t g y → Advances setting told strict cs t g y u h z → Advances setting told strict (bs ++ cs) s f x u h z
+    → CarriesOn setting told strict bs s f x t g y → CarriesOn setting told strict cs t g y u h z → CarriesOn setting told strict (bs ++ cs) s f x u h z
 Advances_then setting told strict bs cs s t u f g h x y z first second files before taken p =
     subst (λ (b : Bytes). Progress setting told strict files before b u h z) (append_assoc taken bs cs) (second files before (taken ++ bs) (first files before taken p))
 
 -- bytes without a line feed go to the line that was begun
 pub Advances_more : (setting : Setting) (told : Option Files) (strict : Bool) (bytes held holds : Bytes) (state : State) (now : Around)
-    → IsOneLine bytes → holds ≡ take (setting.limits.line + 1) (held ++ bytes) → Advances setting told strict bytes state held now state holds now
+    → IsOneLine bytes → holds ≡ take (setting.limits.line + 1) (held ++ bytes) → CarriesOn setting told strict bytes state held now state holds now
 Advances_more setting told strict bytes held holds state now one filled files before taken p = record {
   lines = p.lines;
   rest = p.rest ++ bytes;
@@ -77,7 +77,7 @@ Advances_more setting told strict bytes held holds state now one filled files be
 
 -- a line feed ends that line, which is acted on
 pub Advances_line : (setting : Setting) (told : Option Files) (strict : Bool) (old new : State) (held : Bytes) (now after : Around)
-    → ActsOnRequest setting told strict old new (a_line held) now after → Advances setting told strict (10 ∷ []) old held now new [] after
+    → ActsOnRequest setting told strict old new (a_line held) now after → CarriesOn setting told strict (10 ∷ []) old held now new [] after
 Advances_line setting told strict old new held now after acts files before taken p =
     let step = shown_step setting told old new p.rest acts.reply acts.owed (subst (λ (l : Bytes). Step setting told old l acts.reply acts.owed new) p.holds acts.step) in
     let shows = shown_shows setting old p.rest acts.reply (subst (λ (l : Bytes). ShowsSome setting.limits old l acts.reply) p.holds acts.shows) in
@@ -140,19 +140,19 @@ Fails_line halt setting told strict bytes old new held now after breaks files be
     record {
       lines = (p.lines ++ p.rest ∷ []) ++ more.0;
       rest = more.1;
-      splits = subst (λ (b : Bytes). Splits b ((p.lines ++ p.rest ∷ []) ++ more.0) more.1) (append_assoc taken (10 ∷ []) bytes) more.2;
+      splits = subst (λ (b : Bytes). SplitsLines b ((p.lines ++ p.rest ∷ []) ++ more.0) more.1) (append_assoc taken (10 ∷ []) bytes) more.2;
       part = stop.0;
       acted = λ whole begun s. ([], stop.1 ∙ ap (requests files) (Splits_one taken p.lines whole p.rest begun p.splits s) ∙ sym (append-nil (requests files whole)));
     }
 
 pub Fails_then : (halt : Stop) (setting : Setting) (told : Option Files) (strict : Bool) (bs cs : Bytes) (s t : State) (f g : Bytes) (x y z : Around)
-    → Advances setting told strict bs s f x t g y → Fails halt setting told strict cs t g y z → Fails halt setting told strict (bs ++ cs) s f x z
+    → CarriesOn setting told strict bs s f x t g y → Fails halt setting told strict cs t g y z → Fails halt setting told strict (bs ++ cs) s f x z
 Fails_then halt setting told strict bs cs s t f g x y z first second files before taken p =
     let off = second files before (taken ++ bs) (first files before taken p) in
     record {
       lines = off.lines;
       rest = off.rest;
-      splits = subst (λ (b : Bytes). Splits b off.lines off.rest) (append_assoc taken bs cs) off.splits;
+      splits = subst (λ (b : Bytes). SplitsLines b off.lines off.rest) (append_assoc taken bs cs) off.splits;
       part = off.part;
       acted = λ whole begun split.
           let more = Splits_any bs taken whole begun split in
@@ -178,7 +178,7 @@ Feeds_line setting told strict given tell bytes rest front left at n old mid new
       done = f.done ++ (take at rest ++ 10 ∷ []);
       whole = f.whole ∙ ap (λ (b : Bytes). f.done ++ b) (end.parts ∙ sym (append_assoc (take at rest) (10 ∷ []) (drop (at + 1) rest)))
           ∙ sym (append_assoc f.done (take at rest ++ 10 ∷ []) (drop (at + 1) rest)) ∙ ap (λ (b : Bytes). (f.done ++ (take at rest ++ 10 ∷ [])) ++ b) (sym behind);
-      advances = subst (λ (h : Bytes). Advances setting told strict (f.done ++ (take at rest ++ 10 ∷ [])) old held now new h after) (sym cleared) all;
+      advances = subst (λ (h : Bytes). CarriesOn setting told strict (f.done ++ (take at rest ++ 10 ∷ [])) old held now new h after) (sym cleared) all;
     }
 
 -- the sink failed at that line
@@ -199,11 +199,11 @@ Feeds_fail halt setting told strict given tell bytes rest front at n old mid new
 pub Feeds_end : (setting : Setting) (told : Option Files) (strict : Bool) (bytes rest : Bytes) (n : ℕ) (old mid : State) (held holds filled : Bytes) (now x : Around)
     → Feeds setting told strict bytes old held now rest mid holds x → n ≡ setting.limits.line
     → None ≡ position (λ c. c == 10) rest → filled ≡ take (n + 1) (holds ++ rest)
-    → Advances setting told strict bytes old held now mid filled x
+    → CarriesOn setting told strict bytes old held now mid filled x
 Feeds_end setting told strict bytes rest n old mid held holds filled now x f line none full =
     let fill : filled ≡ take (setting.limits.line + 1) (holds ++ rest) = full ∙ ap (λ (m : ℕ). take (m + 1) (holds ++ rest)) line in
     let more = Advances_more setting told strict rest holds filled mid x (line_without_end rest none) fill in
-    subst (λ (b : Bytes). Advances setting told strict b old held now mid filled x) (sym f.whole) (Advances_then setting told strict f.done rest old mid mid held holds filled now x x f.advances more)
+    subst (λ (b : Bytes). CarriesOn setting told strict b old held now mid filled x) (sym f.whole) (Advances_then setting told strict f.done rest old mid mid held holds filled now x x f.advances more)
 
 -- ---- the end of the input
 rest_some : (limits : Limits) (held rest : Bytes) → (held ≡ [] → ⊥) → held ≡ shown limits rest → rest ≡ [] → ⊥
@@ -260,7 +260,7 @@ Closes_line setting told strict old new held now after some acts files before ta
     }
 
 pub Cuts_line : (halt : Stop) (setting : Setting) (told : Option Files) (strict : Bool) (old new : State) (held : Bytes) (now after : Around)
-    → (held ≡ [] → ⊥) → Breaks halt setting told strict old new (a_line held) now after → Cuts halt setting told strict old held now after
+    → (held ≡ [] → ⊥) → Breaks halt setting told strict old new (a_line held) now after → CutsRun halt setting told strict old held now after
 Cuts_line halt setting told strict old new held now after some breaks files before taken p =
     let step = shown_step setting told old new p.rest breaks.reply breaks.owed (subst (λ (l : Bytes). Step setting told old l breaks.reply breaks.owed new) p.holds breaks.step) in
     let shows = shown_shows setting old p.rest breaks.reply (subst (λ (l : Bytes). ShowsSome setting.limits old l breaks.reply) p.holds breaks.shows) in

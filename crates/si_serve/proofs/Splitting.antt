@@ -16,7 +16,7 @@ use Rattle.si_steps.specs.Loads.{Owed, nothing, together}
 use Rattle.si_steps.specs.Steps.{Step}
 use Rattle.si_session.proofs.EndedLines.{ended-append}
 use Rattle.si_serve.specs.Lines.{IsLineEnd}
-use Rattle.si_steps.specs.Runs.{ended, IsOneLine, Splits, lines_at_end, Request, a_word, a_line, requests, Acts, GoesOn}
+use Rattle.si_steps.specs.Runs.{ended, IsOneLine, SplitsLines, lines_at_end, Request, a_word, a_line, requests, Acts, GoesOn}
 use Rattle.si_serve.specs.Shown.{ShowsAt, ShownRun}
 
 -- ---- lines
@@ -28,11 +28,11 @@ pub IsOneLine-append : (a b : Bytes) → IsOneLine a → IsOneLine b → IsOneLi
 IsOneLine-append a b one two = rw (list_any-append, one, two) refl
 
 -- no bytes have no lines
-pub Splits_none : Splits [] [] []
+pub Splits_none : SplitsLines [] [] []
 Splits_none = record { whole = refl; each = tt; last = refl }
 
 -- bytes without a line feed belong to the line that was begun
-pub Splits_more : (bytes : Bytes) (lines : List Bytes) (rest more : Bytes) → Splits bytes lines rest → IsOneLine more → Splits (bytes ++ more) lines (rest ++ more)
+pub Splits_more : (bytes : Bytes) (lines : List Bytes) (rest more : Bytes) → SplitsLines bytes lines rest → IsOneLine more → SplitsLines (bytes ++ more) lines (rest ++ more)
 Splits_more bytes lines rest more s one = record {
   whole = ap (λ (b : Bytes). b ++ more) s.whole ∙ append_assoc (ended lines) rest more;
   each = s.each;
@@ -40,7 +40,7 @@ Splits_more bytes lines rest more s one = record {
 }
 
 -- a line feed ends it
-pub Splits_line : (bytes : Bytes) (lines : List Bytes) (rest : Bytes) → Splits bytes lines rest → Splits (bytes ++ 10 ∷ []) (lines ++ rest ∷ []) []
+pub Splits_line : (bytes : Bytes) (lines : List Bytes) (rest : Bytes) → SplitsLines bytes lines rest → SplitsLines (bytes ++ 10 ∷ []) (lines ++ rest ∷ []) []
 Splits_line bytes lines rest s = record {
   whole = ap (λ (b : Bytes). b ++ 10 ∷ []) s.whole ∙ append_assoc (ended lines) rest (10 ∷ [])
       ∙ sym (ended-append lines (rest ∷ [])) ∙ sym (append-nil (ended (lines ++ rest ∷ [])));
@@ -50,25 +50,25 @@ Splits_line bytes lines rest s = record {
 
 -- all bytes fall into lines
 abbrev pub Falls : Bytes → List Bytes → Type 0
-Falls bytes lines = (others : List Bytes) × (end : Bytes) × Splits bytes (lines ++ others) end
+Falls bytes lines = (others : List Bytes) × (end : Bytes) × SplitsLines bytes (lines ++ others) end
 
-falls_by : (c : ℕ) (cs bytes : Bytes) (lines : List Bytes) (rest : Bytes) (b : Bool) → (c == 10) ≡ b → Splits bytes lines rest
-    → ((front : Bytes) (ls : List Bytes) (r : Bytes) → Splits front ls r → Falls (front ++ cs) ls) → Falls (bytes ++ c ∷ cs) lines
+falls_by : (c : ℕ) (cs bytes : Bytes) (lines : List Bytes) (rest : Bytes) (b : Bool) → (c == 10) ≡ b → SplitsLines bytes lines rest
+    → ((front : Bytes) (ls : List Bytes) (r : Bytes) → SplitsLines front ls r → Falls (front ++ cs) ls) → Falls (bytes ++ c ∷ cs) lines
 falls_by c cs bytes lines rest true e s next =
     let is : c ≡ 10 = grind (arith, nat_tests) in
     let more = next (bytes ++ 10 ∷ []) (lines ++ rest ∷ []) [] (Splits_line bytes lines rest s) in (
       rest ∷ more.0,
       more.1,
-      subst (λ (b : Bytes). Splits b (lines ++ rest ∷ more.0) more.1) (append_assoc bytes (10 ∷ []) cs ∙ ap (λ (d : ℕ). bytes ++ d ∷ cs) (sym is))
-          (subst (λ (ls : List Bytes). Splits ((bytes ++ 10 ∷ []) ++ cs) ls more.1) (append_assoc lines (rest ∷ []) more.0) more.2),
+      subst (λ (b : Bytes). SplitsLines b (lines ++ rest ∷ more.0) more.1) (append_assoc bytes (10 ∷ []) cs ∙ ap (λ (d : ℕ). bytes ++ d ∷ cs) (sym is))
+          (subst (λ (ls : List Bytes). SplitsLines ((bytes ++ 10 ∷ []) ++ cs) ls more.1) (append_assoc lines (rest ∷ []) more.0) more.2),
     )
 falls_by c cs bytes lines rest false e s next =
     let more = next (bytes ++ c ∷ []) lines (rest ++ c ∷ []) (Splits_more bytes lines rest (c ∷ []) s (rw e refl)) in
-    (more.0, more.1, subst (λ (b : Bytes). Splits b (lines ++ more.0) more.1) (append_assoc bytes (c ∷ []) cs) more.2)
+    (more.0, more.1, subst (λ (b : Bytes). SplitsLines b (lines ++ more.0) more.1) (append_assoc bytes (c ∷ []) cs) more.2)
 
-pub Splits_any : (more bytes : Bytes) (lines : List Bytes) (rest : Bytes) → Splits bytes lines rest → Falls (bytes ++ more) lines
+pub Splits_any : (more bytes : Bytes) (lines : List Bytes) (rest : Bytes) → SplitsLines bytes lines rest → Falls (bytes ++ more) lines
 Splits_any [] bytes lines rest s =
-    ([], rest, subst (λ (b : Bytes). Splits b (lines ++ []) rest) (sym (append-nil bytes)) (subst (λ (ls : List Bytes). Splits bytes ls rest) (sym (append-nil lines)) s))
+    ([], rest, subst (λ (b : Bytes). SplitsLines b (lines ++ []) rest) (sym (append-nil bytes)) (subst (λ (ls : List Bytes). SplitsLines bytes ls rest) (sym (append-nil lines)) s))
 Splits_any (c ∷ cs) bytes lines rest s = falls_by c cs bytes lines rest (c == 10) refl s (Splits_any cs)
 
 -- ---- one way to fall into lines
@@ -104,7 +104,7 @@ same_lines (l ∷ ls) (m ∷ ms) r s one two each all e =
     let others = same_lines ls ms r s one two each.1 all.1 first.1 in
     λ i. first.0 i ∷ others i
 
-pub Splits_one : (bytes : Bytes) (ls ms : List Bytes) (r s : Bytes) → Splits bytes ls r → Splits bytes ms s → ls ≡ ms
+pub Splits_one : (bytes : Bytes) (ls ms : List Bytes) (r s : Bytes) → SplitsLines bytes ls r → SplitsLines bytes ms s → ls ≡ ms
 Splits_one bytes ls ms r s a b = same_lines ls ms r s a.last b.last a.each b.each (sym a.whole ∙ b.whole)
 
 -- ---- the first line feed

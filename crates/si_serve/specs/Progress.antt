@@ -8,7 +8,7 @@ use Rattle.si_state.specs.States.{State, empty_state}
 use Rattle.si_state.specs.Harvest.{Files}
 use Rattle.si_steps.specs.Loads.{Owed}
 use Rattle.si_session.specs.Session.{View, Around}
-use Rattle.si_steps.specs.Runs.{ended, Splits, lines_at_end, Request, a_word, requests, Acts, GoesOn}
+use Rattle.si_steps.specs.Runs.{ended, SplitsLines, lines_at_end, Request, a_word, requests, Acts, GoesOn}
 use Rattle.si_session.specs.declared.stepped.Stepped.{Stepped}
 use Rattle.si_session.specs.declared.stepped.Stepped.TheVariants.{Refused, SinkFailed}
 use Rattle.si_io.specs.Sends.{SendsAll}
@@ -71,17 +71,17 @@ pub record Progress (setting : Setting) (told : Option Files) (strict : Bool) (f
   pub rest : Bytes
   pub output : Bytes
   pub owed : Owed
-  pub splits : Splits taken lines rest
+  pub splits : SplitsLines taken lines rest
   pub holds : held ≡ shown setting.limits rest
   pub run : ShownRun setting told strict empty_state (requests files lines) output owed state
   pub written : SendsAll before.sink output after.sink
   pub counted : CountsOwed owed before after
 
 -- These bytes carry every progress on.
-abbrev pub Advances : Setting → Option Files → (strict : Bool)
+abbrev pub CarriesOn : Setting → Option Files → (strict : Bool)
     → (bytes : Bytes) (old : State) (held : Bytes) (now : Around) (new : State)
     (holds : Bytes) (after : Around) → Type 0
-Advances setting told strict bytes old held now new holds after =
+CarriesOn setting told strict bytes old held now new holds after =
     (files : List Bytes) (before : Around) (taken : Bytes)
     → Progress setting told strict files before taken old held now
     → Progress setting told strict files before (taken ++ bytes) new holds after
@@ -92,7 +92,7 @@ pub record Feeds (setting : Setting) (told : Option Files) (strict : Bool) (byte
     (holds : Bytes) (after : Around) : Type 0 where
   pub done : Bytes
   pub whole : bytes ≡ done ++ rest
-  pub advances : Advances setting told strict done old held now new holds after
+  pub advances : CarriesOn setting told strict done old held now new holds after
 
 -- The run stopped at one of the lines that are whole after these bytes, and all that were whole
 -- before them were done.
@@ -100,9 +100,9 @@ pub record BrokenOff (halt : Stop) (setting : Setting) (told : Option Files) (st
     (files : List Bytes) (before : Around) (taken bytes : Bytes) (after : Around) : Type 0 where
   pub lines : List Bytes
   pub rest : Bytes
-  pub splits : Splits (taken ++ bytes) lines rest
+  pub splits : SplitsLines (taken ++ bytes) lines rest
   pub part : WritesTo halt setting told strict files lines before after
-  pub acted : (whole : List Bytes) (begun : Bytes) → Splits taken whole begun
+  pub acted : (whole : List Bytes) (begun : Bytes) → SplitsLines taken whole begun
       → BeginWith files whole part.right.done
 
 -- These bytes end every progress at a reply.
@@ -118,7 +118,7 @@ pub record Closed (setting : Setting) (told : Option Files) (strict : Bool) (fil
     (before : Around) (taken : Bytes) (after : Around) : Type 0 where
   pub lines : List Bytes
   pub rest : Bytes
-  pub splits : Splits taken lines rest
+  pub splits : SplitsLines taken lines rest
   pub all : WritesAll setting told strict files (lines_at_end lines rest) before after
 
 -- The input ended after the bytes taken, and the run stopped at the last line.
@@ -126,7 +126,7 @@ pub record Cut (halt : Stop) (setting : Setting) (told : Option Files) (strict :
     (files : List Bytes) (before : Around) (taken : Bytes) (after : Around) : Type 0 where
   pub lines : List Bytes
   pub rest : Bytes
-  pub splits : Splits taken lines rest
+  pub splits : SplitsLines taken lines rest
   pub part : WritesTo halt setting told strict files (lines_at_end lines rest) before after
   pub acted : part.right.done ≡ requests files lines
 
@@ -139,9 +139,9 @@ Closes setting told strict state held now after =
     → Closed setting told strict files before taken after
 
 -- The run stops at the last line of the input.
-abbrev pub Cuts : Stop → Setting → Option Files → (strict : Bool)
+abbrev pub CutsRun : Stop → Setting → Option Files → (strict : Bool)
     → (state : State) (held : Bytes) (now after : Around) → Type 0
-Cuts halt setting told strict state held now after =
+CutsRun halt setting told strict state held now after =
     (files : List Bytes) (before : Around) (taken : Bytes)
     → Progress setting told strict files before taken state held now
     → Cut halt setting told strict files before taken after
@@ -195,7 +195,7 @@ pub record LoadsOrStops (strict : Bool) (result : Result (Unit {0}) Stop) (old n
 -- the run stopped at the reply to one of them.
 pub record FeedsOrStops (strict : Bool) (result : Result (Unit {0}) Stop) (old new : View)
     (bytes held holds : Bytes) (before after : Around) : Type 0 where
-  pub fed : OnOk result (Advances old.setting before.library.files strict bytes old.state held
+  pub fed : OnOk result (CarriesOn old.setting before.library.files strict bytes old.state held
       before new.state holds after)
   pub broken : IfErr result (λ halt. Fails halt old.setting before.library.files strict bytes
       old.state held before after)
@@ -206,6 +206,6 @@ pub record ClosesOrStops (strict : Bool) (result : Result (Unit {0}) Stop) (old 
     (held : Bytes) (before after : Around) : Type 0 where
   pub closed : OnOk result (Closes old.setting before.library.files strict old.state held before
       after)
-  pub cut : IfErr result (λ halt. Cuts halt old.setting before.library.files strict old.state
+  pub cut : IfErr result (λ halt. CutsRun halt old.setting before.library.files strict old.state
       held before after)
   pub rest : KeepsRest result old new before after

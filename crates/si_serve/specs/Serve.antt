@@ -5,7 +5,7 @@ use Rattle.si_defs.specs.Bytes.{Bytes}
 use Rattle.si_steps.specs.declared.limits.Limits.{Limits}
 use Rattle.si_steps.specs.Settings.{Setting, setting_of}
 use Rattle.si_steps.specs.Replies.{Reply, is_refusal}
-use Rattle.si_steps.specs.Runs.{ended, Splits, lines_at_end, Request, requests, IsOutput, IsOutputTo}
+use Rattle.si_steps.specs.Runs.{ended, SplitsLines, lines_at_end, Request, requests, IsOutput, IsOutputTo}
 use Rattle.si_state.specs.Harvest.{Files}
 use Rattle.si_steps.specs.Loads.{Owed}
 use Rattle.si_session.specs.Session.{Around, around, HasCountedOwed}
@@ -92,7 +92,7 @@ pub record BringsLine (files : List Bytes) (taken : Bytes) (done : List Request)
   pub once : now.counts.calls ≡ raised middle.counts.calls
   pub lines : List Bytes
   pub rest : Bytes
-  pub splits : Splits earlier lines rest
+  pub splits : SplitsLines earlier lines rest
   pub acted : BeginWith files lines done
 
 -- After the request at which the run stopped nothing was read: it is a word, before which nothing
@@ -146,7 +146,7 @@ pub record Serves (setting : Setting) (told : Option Files) (strict : Bool) (fil
   pub rest : Bytes
   pub gives : Gives source taken now
   pub within : length taken ≤ setting.limits.session
-  pub splits : Splits taken lines rest
+  pub splits : SplitsLines taken lines rest
   pub ends : Ends status setting told strict files taken lines rest source now before after
 
 -- what was written of the line that says how to call the program
@@ -235,7 +235,7 @@ pub record HasRoomForOutputs (limits : Limits) (told : Option Files) (words : Li
   pub usage : takes program words ≡ false → length usage_line ≤ room
   pub outputs : (taken : Bytes) (now : Option Bytes) (lines : List Bytes) (rest : Bytes)
       (reply : Reply) (output : Bytes) (owed : Owed)
-      → Takes left taken now → length taken ≤ limits.session → Splits taken lines rest
+      → Takes left taken now → length taken ≤ limits.session → SplitsLines taken lines rest
       → MayWrite (setting_of limits) told (asked_by words).strict
       (asked_by words).files taken lines rest now reply output owed
       → (IsFalse may_fail → owed.failures ≡ 0) → length output ≤ room

@@ -7,7 +7,7 @@ ghost use Rattle.si_state.specs.States.{empty_state};
 ghost use Rattle.si_steps.specs.Limits.{AllowsLimits};
 ghost use Rattle.si_steps.specs.Settings.{setting_of};
 ghost use Rattle.si_io.specs.Shown.{SourceShown, KeepsFiles};
-ghost use Rattle.si_session.specs.Session.{IsFresh, around};
+ghost use Rattle.si_session.specs.Session.{IsNewSession, around};
 ghost use Rattle.si_serve.specs.Lines.{held_of, limit_of};
 ghost use Rattle.si_serve.specs.Serve.{AnswersWords, ServesAsSaid, ServesAsked, IsFaultlessWithRoom, IsFaultlessUnlessCounted, HasCauses, WritesUsage, devices};
 ghost use Rattle.si_serve.specs.Words.{asked_of};
@@ -140,7 +140,7 @@ fn run<S: Source, K: Sink, L: Library>(
     sink: &mut K,
     library: &mut L,
 ) -> Status
-    requires start { IsFresh (setting_of limits.now) session.old }
+    requires start { IsNewSession (setting_of limits.now) session.old }
     requires held { held_of pending.old ≡ [] }
     requires limit { limit_of pending.old ≡ limits.now.line }
     ensures serves { ServesAsked (setting_of limits.now) (asked_of matches.now) result

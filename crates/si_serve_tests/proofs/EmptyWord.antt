@@ -7,7 +7,7 @@ use Rattle.si_state.specs.Harvest.{Files}
 use Rattle.si_steps.specs.FileWords.{WordStep, nameless, named, right_word, no_memory}
 use Rattle.si_steps.specs.Loads.{Owed}
 use Rattle.si_steps.specs.Replies.{Reply, syntax_line}
-use Rattle.si_steps.specs.Runs.{Request, Run, Acts, IsOutputTo, Splits, a_word, ended, requests, lines_at_end}
+use Rattle.si_steps.specs.Runs.{Request, Run, Acts, IsOutputTo, SplitsLines, a_word, ended, requests, lines_at_end}
 use Rattle.si_steps.specs.Settings.{Setting, setting_of}
 use Rattle.si_steps.specs.declared.limits.Limits.{Limits}
 use Rattle.si_serve.specs.Serve.{MayWrite, HasRoomForOutputs}

@@ -30,7 +30,7 @@ use Rattle.si_session.specs.declared.stepped.Stepped.{Stepped}
 use Rattle.si_session.specs.Replies.{reply_line}
 use Rattle.si_session.specs.Rejections.{ReportsFaultOfLoad}
 use Rattle.si_session.specs.Session.{Writes, ActsOn, rightly, at_once, holding, ruled_by}
-use Rattle.si_session.specs.Sums.{GainsSample, RefusesSample, CountsAnswers, SumsTo, ReportsSum}
+use Rattle.si_session.specs.Sums.{GainsSample, RefusesSample, CountsEntryAnswers, SumsTo, ReportsSum}
 use Rattle.si_session.proofs.Acting.{holds_same}
 use Rattle.si_session.proofs.Loading.{fault_reported}
 
@@ -126,12 +126,12 @@ next_entry c (x ∷ es) (suc n) e is =
     let k = next_entry c es n e is in
     (k.0, k.1, k.2 ∙ ap (λ m. (c, k.0) ∷ drop m (map (placed_in c) (x ∷ es))) (sym next))
 
-one_sum : (all : All) (c : Clause) (p : Placed) (e : Entry) (n : ℕ) → p.entry ≡ e → CountsAnswers all e n → SumsAnswers all ((c, p) ∷ []) n
+one_sum : (all : All) (c : Clause) (p : Placed) (e : Entry) (n : ℕ) → p.entry ≡ e → CountsEntryAnswers all e n → SumsAnswers all ((c, p) ∷ []) n
 one_sum all c p e n same h = (h.0, h.2.0, 0, h.1 ∙ sym same, h.2.1, refl, omega (arith, h.2.2))
 
 module _ (all : All) (c : Clause) (n : ℕ) (e : Entry) (is : slice_get (map (λ p. p.entry) (entries c)) n ≡ Some e) (sum m : ℕ)
     (s : SumsTo all (of_clause c) (drop n (of_clause c)) sum) (small : m < 2 ^ 32) where
-  pub entry_more : CountsAnswers all e m → SumsTo all (of_clause c) (drop (n + 1) (of_clause c)) (sum + m)
+  pub entry_more : CountsEntryAnswers all e m → SumsTo all (of_clause c) (drop (n + 1) (of_clause c)) (sum + m)
   entry_more h =
       let k = next_entry c (entries c) n e is in
       sums_more all (of_clause c) ((c, k.0) ∷ []) (drop n (of_clause c)) (drop (n + 1) (of_clause c)) sum m k.2 s (one_sum all c k.0 e m k.1 h) (omega (arith, small))

@@ -67,7 +67,7 @@ view_of limits index = record {
 }
 
 -- a session that is new, in this setting: each tree is the root alone
-pub record IsFresh (setting : Setting) (session : View) : Type 0 where
+pub record IsNewSession (setting : Setting) (session : View) : Type 0 where
   pub empty : session.state ≡ empty_state
   pub set : session.setting ≡ setting
   pub no_keys : session.keys ≡ []
@@ -120,9 +120,10 @@ behind_owed owed counts = record {
 }
 
 -- Exactly what is owed to the library was counted. A failure is owed only where it may fail.
-pub record HasCountedOwed (may_fail : Bool) (owed : Owed) (before now : LibraryCounts) : Type 0 where
-  pub counts : now ≡ behind_owed owed before
-  pub sure : IsFalse may_fail → owed.failures ≡ 0
+pub record HasCountedOwed (may_fail : Bool) (owed : Owed) (before now : LibraryCounts) : Type 0
+  where
+    pub counts : now ≡ behind_owed owed before
+    pub sure : IsFalse may_fail → owed.failures ≡ 0
 
 -- what a sink and a library show before a call, or after it
 pub record Around : Type 0 where

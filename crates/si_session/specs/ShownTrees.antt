@@ -5,7 +5,7 @@ use Rattle.si_flat.specs.Cells.{Term}
 use Rattle.si_legal.specs.Trees.{Tree}
 use Rattle.si_legal.specs.Counts.{node_count, leaf_count, unmerged_count}
 use Rattle.si_held.specs.TwoTrees.{TwoTrees}
-use Rattle.si_held.specs.Queries.{asked_tree, Passes, HaveTrees}
+use Rattle.si_held.specs.Queries.{asked_tree, PassesNodes, HaveTrees}
 use Rattle.si_state.specs.States.{State}
 use Rattle.si_defs.specs.Bytes.{Bytes}
 use Rattle.si_steps.specs.declared.limits.Limits.{Limits}
@@ -20,7 +20,7 @@ abbrev pub ShowsTrees : Numbering → TwoTrees → Command → Reply → Type 0
 ShowsTrees numbers trees tree reply =
     reply ≡ tree_reply (nodes_of trees.literals) (nodes_of trees.subterms)
 ShowsTrees numbers trees (explain relation pattern) reply =
-    (passed answers : ℕ) × Passes relation pattern numbers trees passed
+    (passed answers : ℕ) × PassesNodes relation pattern numbers trees passed
     × (reply ≡ explain_line passed (node_count (asked_tree pattern trees)) answers ∷ [])
 ShowsTrees numbers trees command reply = Unit {0}
 

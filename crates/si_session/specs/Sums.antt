@@ -33,8 +33,8 @@ CountsUnifiable all pattern n =
     (hits : List Hit) × IsAnswer Unifiable pattern all hits × (n ≡ length hits)
 
 -- and with this entry, asked for as a pattern
-abbrev pub CountsAnswers : List (Clause × Placed) → Entry → ℕ → Type 0
-CountsAnswers all entry n =
+abbrev pub CountsEntryAnswers : List (Clause × Placed) → Entry → ℕ → Type 0
+CountsEntryAnswers all entry n =
     (pattern : Pattern) × (pattern_entry pattern ≡ entry) × CountsUnifiable all pattern n
 
 -- the answers among the entries of all clauses to the entries of the last ones, so many of them

@@ -9,7 +9,7 @@ ghost use Rattle.si_term.specs.Meaning.{clause_of, entry_of, pattern_of};
 ghost use Rattle.si_flat.specs.Flattened.{IsSoundEntry};
 ghost use Rattle.si_harvest.specs.Faults.{NamesWhy};
 ghost use Rattle.si_session.specs.Session.{ActsOn, CountsSinkFault};
-ghost use Rattle.si_session.specs.Sums.{GainsSample, RefusesSample, CountsUnifiable, CountsAnswers, SumsLast, ReportsSum};
+ghost use Rattle.si_session.specs.Sums.{GainsSample, RefusesSample, CountsUnifiable, CountsEntryAnswers, SumsLast, ReportsSum};
 
 use crate::refusals::load_refusal;
 use crate::reply::{ReplyLine, report};
@@ -130,7 +130,7 @@ fn count_answers(
     entry: Entry<'_>,
 ) -> Result<u32, AllocError>
     requires { IsSoundEntry (entry_of entry) }
-    ensures { IfOk result (CountsAnswers (state_entries index.now.clauses)
+    ensures { IfOk result (CountsEntryAnswers (state_entries index.now.clauses)
         (entry_of entry.entry)) }
 {
     let pattern = to_pattern(alloc, entry)?;

@@ -8,7 +8,7 @@ ghost use Rattle.si_steps.specs.Settings.{setting_of};
 ghost use Rattle.si_steps.specs.Commands.{IsSilent, add, remove, query};
 ghost use Rattle.si_steps.specs.FileWords.{names_file};
 ghost use Rattle.si_steps.specs.Runs.{a_word, a_line};
-ghost use Rattle.si_session.specs.Session.{IsFresh, Steps, CountsSinkFault, ActsOn, LoadsInto, around};
+ghost use Rattle.si_session.specs.Session.{IsNewSession, Steps, CountsSinkFault, ActsOn, LoadsInto, around};
 ghost use Rattle.si_io.specs.Shown.{KeepsFiles};
 ghost use Rattle.si_session.specs.declared.stepped.Stepped.TheVariants.{Silent, Refused};
 ghost use Rattle.si_defs.specs.Clauses.{IsSoundClause, IsSoundPattern};
@@ -61,7 +61,7 @@ impl Session {
     /// A session without clauses.
     pub fn new(alloc: Global, limits: &Limits) -> Result<Session, AllocError>
         requires { AllowsLimits limits.now }
-        ensures { IfOk result (IsFresh (setting_of limits.now)) }
+        ensures { IfOk result (IsNewSession (setting_of limits.now)) }
     {
         Ok(Session {
             alloc,

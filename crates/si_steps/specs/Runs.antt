@@ -21,7 +21,7 @@ abbrev pub IsOneLine : Bytes → Type 0
 IsOneLine line = IsFalse (list_any (λ c. c == 10) line)
 
 -- the bytes are these lines, each with its line feed, and then a rest without one
-pub record Splits (bytes : Bytes) (lines : List Bytes) (rest : Bytes) : Type 0 where
+pub record SplitsLines (bytes : Bytes) (lines : List Bytes) (rest : Bytes) : Type 0 where
   pub whole : bytes ≡ ended lines ++ rest
   pub each : AllByRecursion IsOneLine lines
   pub last : IsOneLine rest

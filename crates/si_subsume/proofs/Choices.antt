@@ -16,7 +16,7 @@ use Rattle.si_trail.specs.Trails.{Trail}
 use Rattle.si_unify.specs.declared.slots.Slots.{Slots}
 use Rattle.si_unify.specs.Solving.{Pairs, Equalizes, IsBinding, RanksBelow, IsSolution, HaveCommon, AllowsSolving}
 use Rattle.si_subsume.specs.declared.search.Choice.{Choice}
-use Rattle.si_subsume.specs.Search.{Slices, CanEnd, number_of, IsLeastSearch, IsChosen, AreChosen, AreTried, IsUnderway, IsDead, NextNumber, GoesOnFrom, FindsTarget, IsFirstTarget}
+use Rattle.si_subsume.specs.Search.{Slices, CanEnd, number_from_one, IsLeastSearch, IsChosen, AreChosen, AreTried, IsUnderway, IsDead, NextNumber, GoesOnFrom, FindsTarget, IsFirstTarget}
 
 pub compare : (m n : ℕ) → (m < n) ⊎ ((m ≡ n) ⊎ (n < m))
 compare zero zero = inr (inl refl)
@@ -174,7 +174,7 @@ module _ (slots : Slots) (targets : Slices) where
   pub taken : (old : Pairs) (literals : Slices) (choices : List Choice) (new : Pairs) (s : Substitution Symbol Variable)
       → AreChosen slots targets old literals choices [] new
       → IsSolution slots new s
-      → IsSolution slots old s × AreImages (TakesTo s) targets literals (map number_of choices)
+      → IsSolution slots old s × AreImages (TakesTo s) targets literals (map number_from_one choices)
   taken old [] [] new s h solves = (subst (λ p. IsSolution slots p s) h.1 solves, tt)
   taken old (l ∷ ls) [] new s h solves = absurd (let e : [] ≡ l ∷ ls = h.0 in cc)
   taken old [] (c ∷ choices) new s h solves = absurd h
@@ -186,7 +186,7 @@ module _ (slots : Slots) (targets : Slices) where
   pub least : (old : Pairs) (literals : Slices) (choices : List Choice) (new : Pairs) (ms : List ℕ)
       → AreChosen slots targets old literals choices [] new
       → CanEnd slots targets old literals ms
-      → IsNoLater (map number_of choices) ms
+      → IsNoLater (map number_from_one choices) ms
   least old literals [] new ms h can = tt
   least old [] (c ∷ choices) new ms h can = absurd h
   least old (l ∷ ls) (c ∷ choices) new [] h can = absurd can.2

@@ -11,7 +11,7 @@ use Rattle.std.specs.Borrow.{Bor}
 use Rattle.si_defs.proofs.BoolLaws.{agreed}
 use Rattle.si_flat.specs.declared.Cell.{Cell}
 use Rattle.si_subsume.specs.declared.heads.Head.{Head}
-use Rattle.si_subsume.specs.Heads.{equal_heads, slice_head, first_in, nexts, IsFirstBy, HasTarget}
+use Rattle.si_subsume.specs.Heads.{equal_heads, slice_head, first_in, nexts, IsFirstBy, HasTargetByHead}
 use Rattle.si_subsume.specs.Search.{Slices}
 
 -- ---- the index is built from the last target on
@@ -116,12 +116,12 @@ first_within end k (b ∷ bs) h e = by (equal_heads h (slice_head b)) (first_wit
     by false le = le
 
 -- there is one with the head where the first isn't the end
-pub target_there : (targets : Slices) (h : Head) → (first_in (length targets) 0 targets h ≡ length targets → ⊥) → HasTarget targets h
+pub target_there : (targets : Slices) (h : Head) → (first_in (length targets) 0 targets h ≡ length targets → ⊥) → HasTargetByHead targets h
 target_there targets h found =
     let there = hit (length targets) 0 targets h (omega (arith, first_within (length targets) 0 targets h (omega arith), found)) in
     (there.place, there.slice, there.slice_is, there.has)
 
-pub no_target : (targets : Slices) (h : Head) → first_in (length targets) 0 targets h ≡ length targets → HasTarget targets h → ⊥
+pub no_target : (targets : Slices) (h : Head) → first_in (length targets) 0 targets h ≡ length targets → HasTargetByHead targets h → ⊥
 no_target targets h none (n, b, got, has) =
     let differs : equal_heads h (slice_head b) ≡ false = skipped (length targets) 0 targets h n b got (omega (arith, none, slice_get_within targets n b got)) in
     let bad : true ≡ false = sym has ∙ differs in cc

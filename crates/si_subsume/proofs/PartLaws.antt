@@ -16,7 +16,7 @@ use Rattle.si_unify.specs.declared.slots.Slots.{Slots}
 use Rattle.si_unify.specs.Solving.{slot_of, is_frozen, Equalizes, IsSolution}
 use Rattle.si_unify.specs.Spots.{free_slot}
 use Rattle.si_subsume.specs.Search.{Slices, CanEnd}
-use Rattle.si_subsume.specs.Parts.{select, BelongsTo, AreApart, AreFixed}
+use Rattle.si_subsume.specs.Parts.{select, BelongsTo, BelongToParts, AreFixed}
 
 -- ---- maps that agree at the variables of cells
 abbrev AgreeAt : (f g : Variable → Term) → Cell → Type 0
@@ -240,7 +240,7 @@ module _ (slots : Slots) where
       abbrev Takes : Substitution Symbol Variable → Bor (List Cell) → Bor (List Cell) → Type 0
       Takes s l k = Equalizes (image same_variable s) l.now k.now
 
-      images_joined : (labels : List ℕ) (bs : Slices) (ns : List ℕ) → length ns ≡ length labels → AreApart slots owner labels bs → AllByRecursion (CoversSlice ys) bs
+      images_joined : (labels : List ℕ) (bs : Slices) (ns : List ℕ) → length ns ≡ length labels → BelongToParts slots owner labels bs → AllByRecursion (CoversSlice ys) bs
           → ((q : ℕ) → AreImages (Takes (part q)) targets (select labels q bs) (select labels q ns)) → AreImages (Takes joined) targets bs ns
       images_joined [] [] [] size apart covered h = tt
       images_joined [] [] (n ∷ ns) size apart covered h = absurd (omega (arith, size))
@@ -261,7 +261,7 @@ module _ (slots : Slots) where
 
 -- ---- the least map
 -- each part has its least map: they make the least map of all
-pub parts_least : (slots : Slots) (owner : ℕ → ℕ) (labels : List ℕ) (literals targets : Slices) (ns : List ℕ) → AreApart slots owner labels literals → AllByRecursion (λ b. AreFixed slots b.now) targets
+pub parts_least : (slots : Slots) (owner : ℕ → ℕ) (labels : List ℕ) (literals targets : Slices) (ns : List ℕ) → BelongToParts slots owner labels literals → AllByRecursion (λ b. AreFixed slots b.now) targets
     → length ns ≡ length labels → length literals ≡ length labels → ((q : ℕ) → IsLeast (CanEnd slots targets [] (select labels q literals)) (select labels q ns))
     → IsLeast (CanEnd slots targets [] literals) ns
 parts_least slots owner labels literals targets ns apart fixed size sizes h = record {
@@ -295,8 +295,8 @@ part_without_map slots labels literals targets q none ms p =
 -- ---- labels that were looked at
 module _ (slots : Slots) (owner : ℕ → ℕ) where
   -- one literal more
-  pub apart_more : (labels : List ℕ) (bs : Slices) (d : Bor (List Cell)) (e i : ℕ) → length labels ≡ length bs → i < length bs → AreApart slots owner (take i labels) (take i bs)
-      → AllByRecursion (BelongsTo slots owner (get_or labels i e)) (get_or bs i d).now → AreApart slots owner (take (suc i) labels) (take (suc i) bs)
+  pub apart_more : (labels : List ℕ) (bs : Slices) (d : Bor (List Cell)) (e i : ℕ) → length labels ≡ length bs → i < length bs → BelongToParts slots owner (take i labels) (take i bs)
+      → AllByRecursion (BelongsTo slots owner (get_or labels i e)) (get_or bs i d).now → BelongToParts slots owner (take (suc i) labels) (take (suc i) bs)
   apart_more [] [] d e i size within apart own = absurd (omega (arith, within))
   apart_more [] (b ∷ bs) d e i size within apart own = absurd (omega (arith, size))
   apart_more (l ∷ labels) [] d e i size within apart own = absurd (omega (arith, within))
@@ -304,7 +304,7 @@ module _ (slots : Slots) (owner : ℕ → ℕ) where
   apart_more (l ∷ labels) (b ∷ bs) d e (suc i) size within apart own = (apart.0, apart_more labels bs d e i (omega (arith, size)) (omega (arith, within)) apart.1 own)
 
   -- all are one part
-  pub one_part : (bs : Slices) → (λ (k : ℕ). 0) ≡ owner → AreApart slots owner (replicate (length bs) 0) bs
+  pub one_part : (bs : Slices) → (λ (k : ℕ). 0) ≡ owner → BelongToParts slots owner (replicate (length bs) 0) bs
   one_part [] all = tt
   one_part (b ∷ bs) all = (of_one b.now, one_part bs all)
     where
@@ -343,7 +343,7 @@ without_literal slots targets literals labels ns n q below h =
     subst (λ bs. IsLeast (CanEnd slots targets [] bs) (select labels q ns)) (sym (none_selected n q labels literals below h))
     (subst (IsLeast (CanEnd slots targets [] [])) (sym (none_selected n q labels ns below h)) (nothing_least slots targets))
 
-pub apart_size : (slots : Slots) (owner : ℕ → ℕ) (labels : List ℕ) (bs : Slices) → AreApart slots owner labels bs → length bs ≡ length labels
+pub apart_size : (slots : Slots) (owner : ℕ → ℕ) (labels : List ℕ) (bs : Slices) → BelongToParts slots owner labels bs → length bs ≡ length labels
 apart_size slots owner [] [] h = refl
 apart_size slots owner [] (b ∷ bs) h = absurd h
 apart_size slots owner (l ∷ labels) [] h = absurd h

@@ -16,7 +16,7 @@ use Rattle.si_unify.specs.declared.slots.Slots.{Slots}
 use Rattle.si_unify.specs.Solving.{Pairs, Equalizes, IsSolution, IsCommon, HasSolved, HaveCommon}
 use Rattle.si_subsume.specs.declared.heads.Head.{Head}
 use Rattle.si_subsume.specs.Search.{Slices, CanEnd, IsSymbolCell, IsFlatLiteral, AreFlatLiterals, HaveOtherHeads, IsFirstTarget, FindsTarget}
-use Rattle.si_subsume.specs.Heads.{head_of, equal_heads, first_cell, slice_head, first_in, nexts, IsFirstToTry, HasTarget, TakesFrom}
+use Rattle.si_subsume.specs.Heads.{head_of, equal_heads, first_cell, slice_head, first_in, nexts, IsFirstToTry, HasTargetByHead, TakesFrom}
 use Rattle.si_subsume.proofs.Unequal.{never_equal}
 use Rattle.si_subsume.proofs.HeadLaws.{skipped, hit, next_at, got_behind, heads_same}
 use Rattle.si_subsume.proofs.Choices.{compare}
@@ -195,10 +195,10 @@ module _ (slots : Slots) (targets : Slices) (target_terms : AreFlatLiterals slot
       → IsFlatLiteral slots literal.now
       → slice_get targets n ≡ Some target
       → Equalizes (image same_variable s) literal.now target.now
-      → HasTarget targets (slice_head literal)
+      → HasTargetByHead targets (slice_head literal)
   target_of s literal n target solution term got equal = by (equal_heads (slice_head literal) (slice_head target)) refl
     where
-      by : (b : Bool) → equal_heads (slice_head literal) (slice_head target) ≡ b → HasTarget targets (slice_head literal)
+      by : (b : Bool) → equal_heads (slice_head literal) (slice_head target) ≡ b → HasTargetByHead targets (slice_head literal)
       by true has = (n, target, got, has)
       by false differs = absurd (never_there slots targets [] literal.now term target_terms n target got differs (s, (solution, equal)))
 
@@ -206,7 +206,7 @@ module _ (slots : Slots) (targets : Slices) (target_terms : AreFlatLiterals slot
       → IsSolution slots [] s
       → AreFlatLiterals slots literals
       → AreImages (λ (l k : Bor (List Cell)). Equalizes (image same_variable s) l.now k.now) targets literals ns
-      → AllByRecursion (λ literal. HasTarget targets (slice_head literal)) literals
+      → AllByRecursion (λ literal. HasTargetByHead targets (slice_head literal)) literals
   each_taken s [] ns solution terms images = tt
   each_taken s (l ∷ ls) [] solution terms images = absurd images
   each_taken s (l ∷ ls) (zero ∷ ns) solution terms images = absurd (let e : None ≡ Some images.0.0 = images.0.1 in cc)
@@ -218,5 +218,5 @@ module _ (slots : Slots) (targets : Slices) (target_terms : AreFlatLiterals slot
   pub map_has_targets : (literals : Slices) (ns : List ℕ)
       → AreFlatLiterals slots literals
       → CanEnd slots targets [] literals ns
-      → AllByRecursion (λ literal. HasTarget targets (slice_head literal)) literals
+      → AllByRecursion (λ literal. HasTargetByHead targets (slice_head literal)) literals
   map_has_targets literals ns terms can = each_taken can.0 literals ns can.1 terms can.2

@@ -52,8 +52,8 @@ pub record IsFirstToTry (targets : Slices) (h : Head) (from number : ℕ) : Type
       → equal_heads h (slice_head b) ≡ true
 
 -- some target has the head
-abbrev pub HasTarget : Slices → Head → Type 0
-HasTarget targets h =
+abbrev pub HasTargetByHead : Slices → Head → Type 0
+HasTargetByHead targets h =
     (n : ℕ) × (b : Bor (List Cell)) × (slice_get targets n ≡ Some b)
     × (equal_heads h (slice_head b) ≡ true)
 

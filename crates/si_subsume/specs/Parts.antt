@@ -19,12 +19,12 @@ BelongsTo slots owner label cell =
     (slot : ℕ) → free_slot slots cell ≡ Some slot → owner slot ≡ label
 
 -- the variables of each literal belong to its part, so literals of two parts share none
-abbrev pub AreApart : Slots → (owner : ℕ → ℕ) → (labels : List ℕ) → Slices → Type 0
-AreApart slots owner [] [] = Unit {0}
-AreApart slots owner [] (b ∷ bs) = ⊥
-AreApart slots owner (l ∷ ls) [] = ⊥
-AreApart slots owner (l ∷ ls) (b ∷ bs) =
-    AllByRecursion (BelongsTo slots owner l) b.now × AreApart slots owner ls bs
+abbrev pub BelongToParts : Slots → (owner : ℕ → ℕ) → (labels : List ℕ) → Slices → Type 0
+BelongToParts slots owner [] [] = Unit {0}
+BelongToParts slots owner [] (b ∷ bs) = ⊥
+BelongToParts slots owner (l ∷ ls) [] = ⊥
+BelongToParts slots owner (l ∷ ls) (b ∷ bs) =
+    AllByRecursion (BelongsTo slots owner l) b.now × BelongToParts slots owner ls bs
 
 -- no variable of these can be bound
 abbrev pub AreFixed : Slots → List Cell → Type 0
@@ -37,7 +37,7 @@ owner_in owners labels slot = get_or labels (get_or owners slot (2 ^ 64 - 1)) 0
 -- the labels are numbers of literals, and tell parts that share no variable
 pub record AreParts (slots : Slots) (literals : Slices) (labels : List ℕ) : Type 0 where
   pub owner : ℕ → ℕ
-  pub apart : AreApart slots owner labels literals
+  pub apart : BelongToParts slots owner labels literals
   pub below : AllByRecursion (λ l. l < length literals) labels
 
 -- the items with so many labels from this one on, those of each label one after the other

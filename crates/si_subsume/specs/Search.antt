@@ -43,12 +43,12 @@ CanEnd slots targets pairs literals ns =
     × AreImages (λ l k. Equalizes (image same_variable s) l.now k.now) targets literals ns
 
 -- the number from 1 of the target that was chosen
-abbrev pub number_of : Choice → ℕ
-number_of choice = suc choice.number
+abbrev pub number_from_one : Choice → ℕ
+number_from_one choice = suc choice.number
 
 pub record IsLeastSearch (slots : Slots) (literals targets : Slices)
     (choices : List Choice) : Type 0 where
-  pub least : IsLeast (CanEnd slots targets [] literals) (map number_of choices)
+  pub least : IsLeast (CanEnd slots targets [] literals) (map number_from_one choices)
   pub inside : AllByRecursion (λ choice. choice.number < length targets) choices
 
 abbrev pub AnswersSearch : Slots → Slices → Slices → Option (Vec Choice Global) → Type 0

@@ -6,7 +6,7 @@ use Rattle.si_flat.specs.declared.Cell.{Cell}
 use Rattle.si_unify.specs.Solving.{Pairs}
 use Rattle.si_subsume.specs.declared.search.Choice.{Choice}
 use Rattle.si_subsume.specs.declared.search.Task.{Task}
-use Rattle.si_subsume.specs.Heads.{slice_head, IsIndexOf, HasTarget, TakesFrom}
+use Rattle.si_subsume.specs.Heads.{slice_head, IsIndexOf, HasTargetByHead, TakesFrom}
 use Rattle.si_subsume.specs.Search.{AreFlatLiterals, FindsTarget, IsUnderway, IsDead, GoesOnFrom, AnswersSearch, AnswersSlices}
 
 -- the literals and the targets are flat, and the index is that of the targets by their heads
@@ -16,16 +16,16 @@ pub record IsSearchable (task : Task) : Type 0 where
   pub index : IsIndexOf task.heads.now task.targets.now
 
 -- a target is tried for a literal
-abbrev pub Tries : Task → Pairs → Pairs → List Cell → ℕ → ℕ → Bool → Type 0
-Tries task = TakesFrom task.slots task.targets.now
+abbrev pub TriesTarget : Task → Pairs → Pairs → List Cell → ℕ → ℕ → Bool → Type 0
+TriesTarget task = TakesFrom task.slots task.targets.now
 
 -- the first target from a number on to which a literal can be taken
-abbrev pub Finds : Task → Pairs → Pairs → List Cell → ℕ → Option ℕ → Type 0
-Finds task = FindsTarget task.slots task.targets.now
+abbrev pub FindsNextTarget : Task → Pairs → Pairs → List Cell → ℕ → Option ℕ → Type 0
+FindsNextTarget task = FindsTarget task.slots task.targets.now
 
 -- where the search stands: these choices were made, and the next literal goes on from this target
-abbrev pub StandsAt : Task → List Choice → Pairs → ℕ → Type 0
-StandsAt task = IsUnderway task.slots task.targets.now task.literals.now
+abbrev pub SearchStandsAt : Task → List Choice → Pairs → ℕ → Type 0
+SearchStandsAt task = IsUnderway task.slots task.targets.now task.literals.now
 
 abbrev pub CannotGoOn : Task → List Choice → Pairs → Type 0
 CannotGoOn task = IsDead task.slots task.targets.now task.literals.now
@@ -38,7 +38,8 @@ Advances task = GoesOnFrom task.slots task.literals.now task.targets.now
 -- for each literal some target begins with the same symbol, of the same arity
 abbrev pub EachHasTarget : Task → Type 0
 EachHasTarget task =
-    AllByRecursion (λ literal. HasTarget task.targets.now (slice_head literal)) task.literals.now
+    AllByRecursion (λ literal. HasTargetByHead task.targets.now (slice_head literal))
+    task.literals.now
 
 -- the choices of the least map
 abbrev pub FindsChoices : Task → Option (Vec Choice Global) → Type 0

@@ -2,7 +2,7 @@
 ghost use Rattle.std.specs.Prelude.{◌≡◌, ◌<◌, ◌-◌, ◌^◌, ◌++◌, ℕ, IfOk, OnOk, length, map};
 ghost use Rattle.std.specs.List.{AllByRecursion};
 ghost use Rattle.si_subsume.specs.Parts.{AreChained, select, parts_from};
-ghost use Rattle.si_subsume.specs.Search.{number_of};
+ghost use Rattle.si_subsume.specs.Search.{number_from_one};
 
 use crate::search::Choice;
 use si_flat::Cell;
@@ -121,7 +121,7 @@ impl Chains {
             ≡ length (select self.now label numbers.old.items) }
         requires small { AllByRecursion (λ choice. choice.number < 2 ^ 32 - 1) choices.now }
         ensures own { select self.now label numbers.new.items
-            ≡ map number_of choices.now }
+            ≡ map number_from_one choices.now }
         ensures others { (p : ℕ) → (p ≡ label → ⊥)
             → select self.now p numbers.new.items
             ≡ select self.now p numbers.old.items }

@@ -4,7 +4,7 @@ ghost use Rattle.std.specs.List.{AllByRecursion};
 ghost use Rattle.si_flat.specs.declared.Owner.TheVariants.{Query, Entry};
 ghost use Rattle.si_subsume.specs.Maps.{AnswersFlat, IsComparable};
 ghost use Rattle.si_subsume.specs.Parts.{AreFixed};
-ghost use Rattle.si_subsume.specs.Search.{AreFlatLiterals, AnswersSlices, number_of};
+ghost use Rattle.si_subsume.specs.Search.{AreFlatLiterals, AnswersSlices, number_from_one};
 ghost use Rattle.si_subsume.specs.Tasks.{IsSearchable, FindsMap};
 
 use crate::apart::least_of_parts;
@@ -21,7 +21,7 @@ use std::alloc::{AllocError, Global};
 // The map that the choices are.
 fn numbers(alloc: Global, choices: &[Choice]) -> Result<LitMap, AllocError>
     requires { AllByRecursion (λ choice. choice.number < 2 ^ 32 - 1) choices.now }
-    ensures { IfOk result (λ list. list ≡ map number_of choices.now) }
+    ensures { IfOk result (λ list. list ≡ map number_from_one choices.now) }
 {
     let mut list = LitMap::new(alloc);
     for i in 0..choices.len() {

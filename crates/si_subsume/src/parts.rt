@@ -1,7 +1,7 @@
 // Which literals share variables: those that do, by themselves or through others, are one part.
 ghost use Rattle.std.specs.Prelude.{◌≡◌, ◌<◌, ◌↔◌, IsTrue, IfOk, IfSome, length, replicate};
 ghost use Rattle.std.specs.List.{AllByRecursion};
-ghost use Rattle.si_subsume.specs.Parts.{AreApart, AreParts, BelongsTo, owner_in};
+ghost use Rattle.si_subsume.specs.Parts.{BelongToParts, AreParts, BelongsTo, owner_in};
 
 use si_flat::Cell;
 use si_unify::Slots;
@@ -136,7 +136,7 @@ fn all_belong(
 fn are_parts(slots: &Slots, owners: &[usize], labels: &[usize], literals: &[&[Cell]]) -> bool
     requires { length labels.now ≡ length literals.now }
     ensures apart { IsTrue result
-        → AreApart slots.now (owner_in owners.now labels.now) labels.now literals.now }
+        → BelongToParts slots.now (owner_in owners.now labels.now) labels.now literals.now }
     ensures below { IsTrue result
         → AllByRecursion (λ l. l < length literals.now) labels.now }
 {

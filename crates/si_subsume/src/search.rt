@@ -3,7 +3,7 @@ ghost use Rattle.std.specs.Prelude.{IsTrue, ◌≡◌, ◌↔◌, ℕ, ◌<◌, 
 ghost use Rattle.si_subsume.specs.Heads.{head_of, first_cell, IsFirstToTry};
 ghost use Rattle.si_unify.specs.Solving.{AllowsSolving};
 ghost use Rattle.si_subsume.specs.Search.{IsFlatLiteral, NextNumber};
-ghost use Rattle.si_subsume.specs.Tasks.{IsSearchable, Tries, Finds, StandsAt, CannotGoOn, Advances, EachHasTarget, FindsChoices};
+ghost use Rattle.si_subsume.specs.Tasks.{IsSearchable, TriesTarget, FindsNextTarget, SearchStandsAt, CannotGoOn, Advances, EachHasTarget, FindsChoices};
 
 use crate::heads::{Heads, head_of};
 use si_flat::Cell;
@@ -42,8 +42,8 @@ fn take_from<'a>(
     requires searchable { IsSearchable task.now }
     requires inside { number < length task.now.targets.now }
     requires ready { AllowsSolving task.now.slots trail.old.pairs trail.old.slots }
-    ensures tries { IfOk result (Tries task.now trail.old.pairs trail.new.pairs literal.now from
-        number) }
+    ensures tries { IfOk result (TriesTarget task.now trail.old.pairs trail.new.pairs literal.now
+        from number) }
     ensures slots { trail.new.slots ≡ trail.old.slots }
     ensures ready { AllowsSolving task.now.slots trail.new.pairs trail.new.slots }
 {
@@ -82,7 +82,8 @@ fn find<'a>(
     requires literal { IsFlatLiteral task.now.slots literal.now }
     requires searchable { IsSearchable task.now }
     requires ready { AllowsSolving task.now.slots trail.old.pairs trail.old.slots }
-    ensures finds { IfOk result (Finds task.now trail.old.pairs trail.new.pairs literal.now from) }
+    ensures finds { IfOk result (FindsNextTarget task.now trail.old.pairs trail.new.pairs
+        literal.now from) }
     ensures ready { IfOk result
         (λ found. AllowsSolving task.now.slots trail.new.pairs trail.new.slots) }
 {
@@ -141,7 +142,7 @@ fn turn<'a>(
 ) -> Result<Option<usize>, AllocError>
     requires searchable { IsSearchable task.now }
     requires ready { AllowsSolving task.now.slots trail.old.pairs trail.old.slots }
-    requires stands { StandsAt task.now choices.old.items trail.old.pairs from }
+    requires stands { SearchStandsAt task.now choices.old.items trail.old.pairs from }
     requires more { length choices.old.items < length task.now.literals.now }
     ensures advances { IfOk result (Advances task.now choices.old.items from choices.new.items
         trail.new.pairs) }

@@ -41,9 +41,9 @@ entries_alone (l ∷ ls) =
 
 -- The walk found the one with the number n of these, from 0, or n is greater and the rest of it is
 -- left.
-abbrev pub Finds : List Term → ℕ → Walk → Type 0
-Finds ts n (walk.At t) = slice_get ts n ≡ Some (term_of t.now)
-Finds ts n (walk.Past left) = n ≡ length ts + left
+abbrev pub FindsInRow : List Term → ℕ → Walk → Type 0
+FindsInRow ts n (walk.At t) = slice_get ts n ≡ Some (term_of t.now)
+FindsInRow ts n (walk.Past left) = n ≡ length ts + left
 
 abbrev pub FindsPath : List (List ℕ) → ℕ → PathWalk → Type 0
 FindsPath ps n (path_walk.At path) = slice_get ps n ≡ Some path

@@ -7,7 +7,7 @@ ghost use Rattle.si_defs.specs.declared.TheConstants.{MOST_OCCURRENCES};
 ghost use Rattle.si_defs.specs.Entries.{entries, distinct_variables, pattern_entry, whole_of};
 ghost use Rattle.si_term.specs.Terms.{term_of};
 ghost use Rattle.si_term.specs.Meaning.{clause_of, place_of, pattern_of, entry_of};
-ghost use Rattle.si_term.specs.Walks.{subterms, subterms_of_all, paths, paths_from, Finds, FindsPath};
+ghost use Rattle.si_term.specs.Walks.{subterms, subterms_of_all, paths, paths_from, FindsInRow, FindsPath};
 
 use crate::clause::{Clause, Entry, Pattern, Place};
 use crate::copies::copy_texts;
@@ -173,7 +173,7 @@ fn count_all(terms: &[Term]) -> u32
 
 /// Passes `left` of the proper subterms that are no variables.
 fn find_inside(term: &Term, left: u32) -> Walk<'_>
-    ensures { Finds (subterms_of_all (arguments (term_of term.now))) left result }
+    ensures { FindsInRow (subterms_of_all (arguments (term_of term.now))) left result }
 {
     match term {
         Term::Var(_) => Walk::Past(left),
@@ -184,7 +184,7 @@ fn find_inside(term: &Term, left: u32) -> Walk<'_>
 /// Passes `left` of the subterms that are no variables, the term itself first.
 #[cycle(find)]
 fn find_term(term: &Term, left: u32) -> Walk<'_>
-    ensures { Finds (subterms (term_of term.now)) left result }
+    ensures { FindsInRow (subterms (term_of term.now)) left result }
 {
     match term {
         Term::Var(_) => Walk::Past(left),
@@ -200,7 +200,7 @@ fn find_term(term: &Term, left: u32) -> Walk<'_>
 
 #[cycle(find)]
 fn find_in(terms: &[Term], number: u32) -> Walk<'_>
-    ensures { Finds (subterms_of_all (row (map term_of terms.now))) number result }
+    ensures { FindsInRow (subterms_of_all (row (map term_of terms.now))) number result }
 {
     let mut left = number;
     for i in 0..terms.len() {

@@ -9,7 +9,7 @@ use Rattle.si_tree.specs.declared.node.Head.{Head}
 use Rattle.si_tree.specs.Nodes.{TreeNode}
 use Rattle.si_tree.proofs.CountLaws.{weight, nodes_counted}
 use Rattle.si_tree.proofs.LeafSteps.{slab_counts}
-use Rattle.si_tree.specs.KeptNodes.{slot_of, content_of, moved_below, GainsChild, HasChildBy, IsBelowBy, RelinksChild, MayPutBetween, IsPutBetween}
+use Rattle.si_tree.specs.KeptNodes.{node_in_slot, content_of, moved_below, GainsChild, HasChildBy, IsBelowBy, RelinksChild, MayPutBetween, IsPutBetween}
 
 pub keys_apart : (s : Slab TreeNode) (j k : ℕ) (n : TreeNode) → get s j ≡ Some n → get s k ≡ None → j ≢ k
 keys_apart s j k n some none e = differ (sym none ∙ ap (get s) (sym e) ∙ some) where
@@ -92,18 +92,18 @@ module _ (s0 : Slab TreeNode) (key parent : ℕ) (fork : TreeNode) (rest : List 
   above_child = subst (λ n. HasChildBy n s.node_head key) (sym above_same) s.stood.child
 
   module _ (s5 : Slab TreeNode) (last : LastStep s.s4 s5 parent f s.above s.node_head) where
-    counts : (count : trees.Content → ℕ) → counted count (map slot_of s5.slots) + count (content_of s.stood.above.content) ≡ counted count (map slot_of s0.slots) + count (content_of s.forked.content) + count (content_of leaf.content) + count (content_of last.linked.content)
+    counts : (count : trees.Content → ℕ) → counted count (map node_in_slot s5.slots) + count (content_of s.stood.above.content) ≡ counted count (map node_in_slot s0.slots) + count (content_of s.forked.content) + count (content_of leaf.content) + count (content_of last.linked.content)
     counts count =
         let one = slab_counts count s0 s.s1 f (Some fork) s.fork_put in
         let two = slab_counts count s.s1 s.s2 l (Some (moved_below leaf f leaf.bindings)) s.leaf_put in
         let three = slab_counts count s.s2 s.s3 f (Some s.forked) s.fork_changed in
         let four = slab_counts count s.s3 s.s4 key (Some (moved_below s.below f rest)) s.below_changed in
         let five = slab_counts count s.s4 s5 parent (Some last.linked) last.above_changed in
-        let a : weight count (slot_of (get s0 f)) ≡ 0 = ap (λ x. weight count (slot_of x)) s.fork_vacant in
-        let b : weight count (slot_of (get s.s1 l)) ≡ 0 = ap (λ x. weight count (slot_of x)) s.leaf_vacant in
-        let d : weight count (slot_of (get s.s2 f)) ≡ count (content_of fork.content) = ap (λ x. weight count (slot_of x)) s.fork_got ∙ ap (λ n. count (content_of n.content)) fork_same in
-        let e : weight count (slot_of (get s.s3 key)) ≡ count (content_of s.below.content) = ap (λ x. weight count (slot_of x)) s.below_got in
-        let g : weight count (slot_of (get s.s4 parent)) ≡ count (content_of s.stood.above.content) = ap (λ x. weight count (slot_of x)) parent_four in
+        let a : weight count (node_in_slot (get s0 f)) ≡ 0 = ap (λ x. weight count (node_in_slot x)) s.fork_vacant in
+        let b : weight count (node_in_slot (get s.s1 l)) ≡ 0 = ap (λ x. weight count (node_in_slot x)) s.leaf_vacant in
+        let d : weight count (node_in_slot (get s.s2 f)) ≡ count (content_of fork.content) = ap (λ x. weight count (node_in_slot x)) s.fork_got ∙ ap (λ n. count (content_of n.content)) fork_same in
+        let e : weight count (node_in_slot (get s.s3 key)) ≡ count (content_of s.below.content) = ap (λ x. weight count (node_in_slot x)) s.below_got in
+        let g : weight count (node_in_slot (get s.s4 parent)) ≡ count (content_of s.stood.above.content) = ap (λ x. weight count (node_in_slot x)) parent_four in
         omega (arith, one, two, three, four, five, a, b, d, e, g)
 
     number : slab_len s5 ≡ slab_len s0 + 2

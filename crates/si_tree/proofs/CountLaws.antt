@@ -5,7 +5,7 @@ use Rattle.std.specs.Prelude.{count_by, is_some}
 use Rattle.si_legal.specs.Trees.{Content, Node}
 use Rattle.si_legal.specs.Counts.{counted}
 use Rattle.si_tree.specs.Nodes.{TreeNode}
-use Rattle.si_tree.specs.KeptNodes.{slot_of}
+use Rattle.si_tree.specs.KeptNodes.{node_in_slot}
 
 suc_same : {m n : ℕ} → suc m ≡ suc n → m ≡ n
 suc_same e = omega (arith, e)
@@ -60,7 +60,7 @@ module _ {R : Type 0} (count : Content → ℕ) where
       omega (arith, rest, here, counted_more x xs, counted_more y ys)
 
 -- each value in a slot is a node
-pub nodes_counted : (slots : List (Option TreeNode)) → counted (λ content. 1) (map slot_of slots) ≡ count_by is_some slots
+pub nodes_counted : (slots : List (Option TreeNode)) → counted (λ content. 1) (map node_in_slot slots) ≡ count_by is_some slots
 nodes_counted [] = refl
 nodes_counted (None ∷ slots) = nodes_counted slots
 nodes_counted (Some n ∷ slots) = ap (λ k. 1 + k) (nodes_counted slots) ∙ sym (sum_by-cons (λ slot. cond (is_some slot) 1 0) (Some n) slots)

@@ -5,7 +5,7 @@ use Rattle.si_flat.specs.declared.Cell.{Cell}
 use Rattle.si_flat.specs.Cells.{Symbol, query, entry, ind, Term, Terms, cells_of, cells_of_all, IsSound, AreSound, StandsFor, IsWhole}
 use Rattle.si_flat.specs.Rows.{CellPair, AreWhole}
 use Rattle.si_legal.specs.Bindings.{Binding, StandForBindings}
-use Rattle.si_tree.specs.Decoding.{arguments_of, terms_of, first_of, term_of, bindings_of}
+use Rattle.si_tree.specs.Decoding.{arguments_of, terms_of, first_term_of, term_of, bindings_of}
 
 -- ---- arguments among further terms
 one_more : (n : ℕ) → 1 + n ≡ suc n
@@ -55,7 +55,7 @@ no_more (x ∷ xs) = ap (λ ys. x ∷ ys) (no_more xs)
 pub term_read : (cells : List Cell) (t : Term) → StandsFor cells t → term_of cells ≡ t
 term_read cells t stands =
     ap term_of (stands.cells_are ∙ no_more (cells_of t))
-    ∙ ap first_of (terms_read t [] stands.sound)
+    ∙ ap first_term_of (terms_read t [] stands.sound)
 
 -- ---- bindings
 pub bindings_read : (cells : List CellPair) (bs : List Binding) → StandForBindings cells bs → bindings_of cells ≡ bs

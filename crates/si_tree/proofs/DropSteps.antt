@@ -26,7 +26,7 @@ use Rattle.si_tree.specs.declared.tree.Tree.TheInside.{Inside}
 use Rattle.si_tree.specs.Decoding.{bindings_of}
 use Rattle.si_tree.specs.Dropping.{Drops, MayTakeOut, IsTakenOut}
 use Rattle.si_tree.specs.Heads.{HeadsAt, AreHeadsOf}
-use Rattle.si_tree.specs.KeptNodes.{node_of, slot_of, tree_of, content_of, heads_of, KnowsHeads, IsKept}
+use Rattle.si_tree.specs.KeptNodes.{node_of, node_in_slot, tree_of, content_of, heads_of, KnowsHeads, IsKept}
 use Rattle.si_tree.proofs.SlotLaws.{slot_read, node_read, vacant_read, stood}
 use Rattle.si_tree.proofs.ChildLaws.{inner_no_leaf}
 use Rattle.si_tree.proofs.HeadLaws.{as_many}
@@ -151,8 +151,8 @@ module _ (old : Inside) (nodes : Slab TreeNode) (key : ℕ) (kept : IsKept old) 
   after_is : node_of taken.after ≡ with_content (node_of taken.above) (inner taken.loses.split stay)
   after_is = λ i. record { parent = taken.loses.parent i; bindings = bindings_of (taken.loses.bindings i); content = taken.loses.is i }
 
-  other_slot : (k : ℕ) → k ≢ key → k ≢ taken.parent → get_or (map slot_of nodes.slots) k None ≡ get_or (map slot_of old.nodes.slots) k None
-  other_slot k a b = slot_read nodes.slots k ∙ ap slot_of (taken.others k a b) ∙ sym (slot_read old.nodes.slots k)
+  other_slot : (k : ℕ) → k ≢ key → k ≢ taken.parent → get_or (map node_in_slot nodes.slots) k None ≡ get_or (map node_in_slot old.nodes.slots) k None
+  other_slot k a b = slot_read nodes.slots k ∙ ap node_in_slot (taken.others k a b) ∙ sym (slot_read old.nodes.slots k)
 
   drops : DropsLeaf (tree_of old) (tree_of new) key
   drops = record {

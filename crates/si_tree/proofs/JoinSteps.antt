@@ -31,7 +31,7 @@ use Rattle.si_tree.specs.declared.tree.Tree.TheInside.{Inside}
 use Rattle.si_tree.specs.Decoding.{bindings_of}
 use Rattle.si_tree.specs.Dropping.{Drops, MayJoinBy, MayTakeBoth, AreTakenOut}
 use Rattle.si_tree.specs.Heads.{HasHead, HeadsAt, AreHeadsOf}
-use Rattle.si_tree.specs.KeptNodes.{node_of, slot_of, tree_of, content_of, heads_of, moved_below, KnowsHeads, IsKept}
+use Rattle.si_tree.specs.KeptNodes.{node_of, node_in_slot, tree_of, content_of, heads_of, moved_below, KnowsHeads, IsKept}
 use Rattle.si_tree.proofs.SlotLaws.{slot_read, node_read, vacant_read, Stood, stood}
 use Rattle.si_tree.proofs.CountLaws.{weight, counted_least}
 use Rattle.si_tree.proofs.DecodingLaws.{bindings_read, stand_whole}
@@ -216,8 +216,8 @@ module _ (old : Inside) (key : ℕ) (cells : List CellPair) (kept : IsKept old) 
     has_linked : HasNode (tree_of new) up.upper (node_of taken.linked)
     has_linked = node_read nodes.slots up.upper taken.linked taken.upper_at
 
-    other_slot : (k : ℕ) → k ≢ key → k ≢ parent → k ≢ may.other → k ≢ up.upper → get_or (map slot_of nodes.slots) k None ≡ get_or (map slot_of old.nodes.slots) k None
-    other_slot k a b c d = slot_read nodes.slots k ∙ ap slot_of (taken.others k a b c d) ∙ sym (slot_read old.nodes.slots k)
+    other_slot : (k : ℕ) → k ≢ key → k ≢ parent → k ≢ may.other → k ≢ up.upper → get_or (map node_in_slot nodes.slots) k None ≡ get_or (map node_in_slot old.nodes.slots) k None
+    other_slot k a b c d = slot_read nodes.slots k ∙ ap node_in_slot (taken.others k a b c d) ∙ sym (slot_read old.nodes.slots k)
 
     abbrev stay : List ℕ
     stay = taken.relinks.replaced.front ++ taken.relinks.replaced.back

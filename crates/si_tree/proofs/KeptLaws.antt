@@ -17,7 +17,7 @@ use Rattle.si_tree.specs.declared.node.Head.{Head}
 use Rattle.si_tree.specs.Nodes.{TreeNode, Content, Fork, Inner, One, Many}
 use Rattle.si_tree.specs.declared.tree.Tree.TheInside.{Inside}
 use Rattle.si_tree.specs.Decoding.{bindings_of}
-use Rattle.si_tree.specs.KeptNodes.{node_of, slot_of, tree_of, content_of, heads_of, AreKnown, KnowsHeads, IsKept, IsLeafNode, IsSameBut, postings_in}
+use Rattle.si_tree.specs.KeptNodes.{node_of, node_in_slot, tree_of, content_of, heads_of, AreKnown, KnowsHeads, IsKept, IsLeafNode, IsSameBut, postings_in}
 use Rattle.si_tree.specs.Heads.{HeadsAt, AreHeadsOf}
 use Rattle.si_tree.specs.Reading.{postings_of}
 use Rattle.si_tree.proofs.SlotLaws.{slot_read, node_read}
@@ -71,8 +71,8 @@ module _ (old new : Inside) (key : ℕ) (n m : TreeNode) (change : ChangesLeaf o
   has : HasNode (tree_of new) key (node_of m)
   has = node_read new.nodes.slots key m change.updates.changed
 
-  other_slot : (k : ℕ) → k ≢ key → get_or (map slot_of new.nodes.slots) k None ≡ get_or (map slot_of old.nodes.slots) k None
-  other_slot k apart = slot_read new.nodes.slots k ∙ ap slot_of (change.updates.others k apart) ∙ sym (slot_read old.nodes.slots k)
+  other_slot : (k : ℕ) → k ≢ key → get_or (map node_in_slot new.nodes.slots) k None ≡ get_or (map node_in_slot old.nodes.slots) k None
+  other_slot k apart = slot_read new.nodes.slots k ∙ ap node_in_slot (change.updates.others k apart) ∙ sym (slot_read old.nodes.slots k)
 
   others : OtherNodesStay (tree_of old) (tree_of new) (key ∷ [])
   others k none = other_slot k (λ e. none (inl (sym e)))
@@ -105,7 +105,7 @@ module _ (old new : Inside) (key : ℕ) (n m : TreeNode) (change : ChangesLeaf o
   counts_change : (count : trees.Content → ℕ) → counted count (tree_of new).nodes + count (content_of n.content) ≡ counted count (tree_of old).nodes + count (content_of m.content)
   counts_change count =
       ap (λ x. counted count (tree_of new).nodes + weight count x) (sym had)
-      ∙ counted_changed count (map slot_of old.nodes.slots) (map slot_of new.nodes.slots) key other_slot
+      ∙ counted_changed count (map node_in_slot old.nodes.slots) (map node_in_slot new.nodes.slots) key other_slot
       ∙ ap (λ x. counted count (tree_of old).nodes + weight count x) has
 
   leaves_same : leaf_count (tree_of new) ≡ leaf_count (tree_of old)
@@ -153,5 +153,5 @@ same_tree old new key n m change set same =
       node : node_of m ≡ node_of n
       node = λ i. record { parent = change.same.parent i; bindings = bindings_of (change.same.bindings i); content = content i }
 
-      nodes : map slot_of new.nodes.slots ≡ map slot_of old.nodes.slots
-      nodes = ap (map slot_of) set ∙ map-set_same slot_of old.nodes.slots key (Some m) None (ap Some node ∙ sym (ap slot_of change.got))
+      nodes : map node_in_slot new.nodes.slots ≡ map node_in_slot old.nodes.slots
+      nodes = ap (map node_in_slot) set ∙ map-set_same node_in_slot old.nodes.slots key (Some m) None (ap Some node ∙ sym (ap node_in_slot change.got))

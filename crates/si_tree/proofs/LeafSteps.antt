@@ -29,7 +29,7 @@ use Rattle.si_tree.specs.declared.tree.Tree.TheInside.{Inside}
 use Rattle.si_tree.specs.Changes.{HasNewLeaf}
 use Rattle.si_tree.specs.Decoding.{bindings_of}
 use Rattle.si_tree.specs.Heads.{HasHead, HeadsAt, AreHeadsOf}
-use Rattle.si_tree.specs.KeptNodes.{node_of, slot_of, tree_of, content_of, heads_of, KnowsHeads, IsKept, GainsChild}
+use Rattle.si_tree.specs.KeptNodes.{node_of, node_in_slot, tree_of, content_of, heads_of, KnowsHeads, IsKept, GainsChild}
 use Rattle.si_tree.specs.Rights.{beyond_rights, head_in}
 use Rattle.si_tree.proofs.SlotLaws.{slot_read, node_read, vacant_read, stood}
 use Rattle.si_tree.proofs.CountLaws.{weight, counted_changed, counted_below, nodes_counted}
@@ -71,11 +71,11 @@ heads_append tree split (k ∷ hs) [] h child are here = absurd are
 heads_append tree split (k ∷ hs) (c ∷ cs) h child are here = (are.0, heads_append tree split hs cs h child are.1 here)
 
 -- ---- one slot of a slab
-pub slab_counts : (count : trees.Content → ℕ) (old new : Slab TreeNode) (key : ℕ) (slot : Option TreeNode) → Updates old new key slot → counted count (map slot_of new.slots) + weight count (slot_of (get old key)) ≡ counted count (map slot_of old.slots) + weight count (slot_of slot)
+pub slab_counts : (count : trees.Content → ℕ) (old new : Slab TreeNode) (key : ℕ) (slot : Option TreeNode) → Updates old new key slot → counted count (map node_in_slot new.slots) + weight count (node_in_slot (get old key)) ≡ counted count (map node_in_slot old.slots) + weight count (node_in_slot slot)
 slab_counts count old new key slot updates =
-    ap (λ x. counted count (map slot_of new.slots) + weight count x) (sym (slot_read old.slots key))
-    ∙ counted_changed count (map slot_of old.slots) (map slot_of new.slots) key (λ k apart. slot_read new.slots k ∙ ap slot_of (updates.others k apart) ∙ sym (slot_read old.slots k))
-    ∙ ap (λ x. counted count (map slot_of old.slots) + weight count x) (slot_read new.slots key ∙ ap slot_of updates.changed)
+    ap (λ x. counted count (map node_in_slot new.slots) + weight count x) (sym (slot_read old.slots key))
+    ∙ counted_changed count (map node_in_slot old.slots) (map node_in_slot new.slots) key (λ k apart. slot_read new.slots k ∙ ap node_in_slot (updates.others k apart) ∙ sym (slot_read old.slots k))
+    ∙ ap (λ x. counted count (map node_in_slot old.slots) + weight count x) (slot_read new.slots key ∙ ap node_in_slot updates.changed)
 
 -- ---- the step
 pub record LinksLeaf (old new : Inside) (parent key : ℕ) (l n m : TreeNode) (head : Head) (p : Posting) : Type 0 where
@@ -137,7 +137,7 @@ module _ (old new : Inside) (parent key : ℕ) (l n m : TreeNode) (head : Head) 
             ap bindings_of links.gains.bindings ∙ ap (λ x. x.bindings) is,
           ))
       | inr apart ↦
-          (node, slot_read new.nodes.slots k ∙ ap slot_of (other_slot k (vacant_apart (tree_of old) key k node vacant has) apart) ∙ sym (slot_read old.nodes.slots k) ∙ has, refl, refl)
+          (node, slot_read new.nodes.slots k ∙ ap node_in_slot (other_slot k (vacant_apart (tree_of old) key k node vacant has) apart) ∙ sym (slot_read old.nodes.slots k) ∙ has, refl, refl)
     ]
 
   binds_kept : KeepsBindings (tree_of old) (tree_of new)
@@ -167,7 +167,7 @@ module _ (old new : Inside) (parent key : ℕ) (l n m : TreeNode) (head : Head) 
       has = node_read new.nodes.slots parent m links.linked.changed ∙ ap Some new_parent;
       after_are = IsPermutation-append_comm (key ∷ []) links.gains.children;
     };
-    others = λ k none. slot_read new.nodes.slots k ∙ ap slot_of (other_slot k (λ e. none (inl (sym e))) (λ e. none (inr (inl (sym e))))) ∙ sym (slot_read old.nodes.slots k);
+    others = λ k none. slot_read new.nodes.slots k ∙ ap node_in_slot (other_slot k (λ e. none (inl (sym e))) (λ e. none (inr (inl (sym e))))) ∙ sym (slot_read old.nodes.slots k);
     root = links.root;
     next = links.next;
     room = λ t at.
@@ -189,8 +189,8 @@ module _ (old new : Inside) (parent key : ℕ) (l n m : TreeNode) (head : Head) 
   counts count =
       let first = slab_counts count old.nodes links.between key (Some l) links.put in
       let second = slab_counts count links.between new.nodes parent (Some m) links.linked in
-      let none : weight count (slot_of (get old.nodes key)) ≡ 0 = ap (λ x. weight count (slot_of x)) links.vacant in
-      let some : weight count (slot_of (get links.between parent)) ≡ count (content_of n.content) = ap (λ x. weight count (slot_of x)) links.got in
+      let none : weight count (node_in_slot (get old.nodes key)) ≡ 0 = ap (λ x. weight count (node_in_slot x)) links.vacant in
+      let some : weight count (node_in_slot (get links.between parent)) ≡ count (content_of n.content) = ap (λ x. weight count (node_in_slot x)) links.got in
       omega (arith, first, second, none, some)
 
   pub leaf_added : HeadsAt (tree_of new) links.gains.split key head → new.leaves ≡ old.leaves + 1 → new.unmerged ≡ old.unmerged → IsKept new
@@ -301,15 +301,15 @@ leaf_one : (c : trees.Content) → leaves_of c ≤ 1
 leaf_one (inner split children) = omega arith
 leaf_one (leaf ps) = omega arith
 
-pub fewer_leaves : (old : Inside) (made : Slab TreeNode) (between : ℕ) → IsKept old → map slot_of made.slots ≡ map slot_of old.nodes.slots → between ≡ slab_len made + 1 → old.leaves < between
+pub fewer_leaves : (old : Inside) (made : Slab TreeNode) (between : ℕ) → IsKept old → map node_in_slot made.slots ≡ map node_in_slot old.nodes.slots → between ≡ slab_len made + 1 → old.leaves < between
 fewer_leaves old made between kept same more =
     let most = counted_below leaves_of (λ content. 1) (tree_of old).nodes leaf_one in
     let count = nodes_counted made.slots in
-    let moved : counted (λ content. 1) (map slot_of made.slots) ≡ counted (λ content. 1) (map slot_of old.nodes.slots) = ap (counted (λ content. 1)) same in
+    let moved : counted (λ content. 1) (map node_in_slot made.slots) ≡ counted (λ content. 1) (map node_in_slot old.nodes.slots) = ap (counted (λ content. 1)) same in
     omega (arith, kept.leaves, most, count, moved, more)
 
 -- ---- the parent in the slab
-pub parent_made : (old : Inside) (made : Slab TreeNode) (parent : ℕ) (node : Node Term) → map slot_of made.slots ≡ map slot_of old.nodes.slots → HasNode (tree_of old) parent node → (x : TreeNode) × (get made parent ≡ Some x) × (node_of x ≡ node)
+pub parent_made : (old : Inside) (made : Slab TreeNode) (parent : ℕ) (node : Node Term) → map node_in_slot made.slots ≡ map node_in_slot old.nodes.slots → HasNode (tree_of old) parent node → (x : TreeNode) × (get made parent ≡ Some x) × (node_of x ≡ node)
 parent_made old made parent node same has =
     let found = stood made.slots parent node (ap (λ slots. get_or slots parent None) same ∙ has) in
     (found.kept, found.got, found.read)

@@ -9,7 +9,7 @@ use Rattle.si_legal.specs.Trees as trees
 use Rattle.si_legal.specs.Counts.{leaves_of, unmerged_of, counted}
 use Rattle.si_tree.specs.Nodes.{TreeNode}
 use Rattle.si_tree.specs.declared.tree.Tree.TheInside.{Inside}
-use Rattle.si_tree.specs.KeptNodes.{node_of, slot_of, tree_of, content_of, heads_of, KnowsHeads, IsKept}
+use Rattle.si_tree.specs.KeptNodes.{node_of, node_in_slot, tree_of, content_of, heads_of, KnowsHeads, IsKept}
 use Rattle.si_tree.specs.Decoding.{bindings_of}
 use Rattle.si_tree.specs.Heads.{AreHeadsOf}
 use Rattle.si_tree.specs.NewTrees.{bare_root, IsRootAlone}
@@ -67,9 +67,9 @@ module _ (t : Inside) (n : TreeNode) (first : IsFirst t n) where
 
   none_counted : (count : trees.Content → ℕ) → count (inner 0 []) ≡ 0 → 0 ≡ counted count (tree_of t).nodes
   none_counted count none =
-      let there : weight count (get_or (map slot_of t.nodes.slots) t.root None) ≡ 0 =
+      let there : weight count (get_or (map node_in_slot t.nodes.slots) t.root None) ≡ 0 =
       ap (weight count) (node_read t.nodes.slots t.root n first.updates.changed) ∙ ap count first.content ∙ none in
-      omega (arith, there, counted_changed count [] (map slot_of t.nodes.slots) t.root (λ key apart. vacant_read t.nodes.slots key (other key apart)))
+      omega (arith, there, counted_changed count [] (map node_in_slot t.nodes.slots) t.root (λ key apart. vacant_read t.nodes.slots key (other key apart)))
 
   pub new_kept : IsKept t
   new_kept = record {

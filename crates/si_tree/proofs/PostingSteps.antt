@@ -14,7 +14,7 @@ use Rattle.si_changes.proofs.PostingLaws.{gains_posting, loses_posting}
 use Rattle.si_tree.specs.Nodes.{TreeNode}
 use Rattle.si_tree.specs.declared.tree.Tree.TheInside.{Inside}
 use Rattle.si_tree.specs.Changes.{HasPosting, IsNotStored, AddsPosting, DropsPosting, IsWithout}
-use Rattle.si_tree.specs.KeptNodes.{node_of, slot_of, tree_of, content_of, IsKept, IsLeafNode, IsSameBut, postings_in}
+use Rattle.si_tree.specs.KeptNodes.{node_of, node_in_slot, tree_of, content_of, IsKept, IsLeafNode, IsSameBut, postings_in}
 use Rattle.si_tree.specs.Reading.{postings_of}
 use Rattle.si_tree.proofs.SlotLaws.{node_read}
 use Rattle.si_tree.proofs.CountLaws.{weight, counted_least, counted_below}
@@ -162,8 +162,8 @@ module _ (old new : Inside) (key : ℕ) (n m : TreeNode) (p : Posting) (dropped 
 -- ---- the number of unmerged leaves
 pub enough_unmerged : (old : Inside) (key : ℕ) (n : TreeNode) → IsKept old → get old.nodes key ≡ Some n → unmerged_of (content_of n.content) ≤ old.unmerged
 enough_unmerged old key n kept got =
-    let least = counted_least unmerged_of (map slot_of old.nodes.slots) key in
-    let here : weight unmerged_of (get_or (map slot_of old.nodes.slots) key None) ≡ unmerged_of (content_of n.content) = ap (weight unmerged_of) (node_read old.nodes.slots key n got) in
+    let least = counted_least unmerged_of (map node_in_slot old.nodes.slots) key in
+    let here : weight unmerged_of (get_or (map node_in_slot old.nodes.slots) key None) ≡ unmerged_of (content_of n.content) = ap (weight unmerged_of) (node_read old.nodes.slots key n got) in
     omega (arith, kept.unmerged, here, least)
 
 unmerged_leaf : (c : Content) → unmerged_of c ≤ leaves_of c

@@ -15,7 +15,7 @@ use Rattle.si_tree.specs.Nodes.{TreeNode, Content}
 use Rattle.si_tree.specs.declared.tree.Tree.TheInside.{Inside}
 use Rattle.si_tree.specs.Decoding.{bindings_of}
 use Rattle.si_tree.specs.Heads.{AreHeadsOf}
-use Rattle.si_tree.specs.KeptNodes.{node_of, slot_of, tree_of, content_of, heads_of, AreKnown, KnowsHeads, IsKept, IsSameNode, StaySame}
+use Rattle.si_tree.specs.KeptNodes.{node_of, node_in_slot, tree_of, content_of, heads_of, AreKnown, KnowsHeads, IsKept, IsSameNode, StaySame}
 
 -- ---- heads, by what is seen of a node
 pub known_told : (tree : Tree Term) (content : Content) (split : ℕ) (children : List ℕ) → content_of content ≡ inner split children → KnowsHeads tree content → AreHeadsOf tree split (heads_of content) children
@@ -34,10 +34,10 @@ same_node n m same = λ i. record { parent = same.parent i; bindings = bindings_
 pub same_updates : (old new : Slab TreeNode) (key : ℕ) (same : StaySame old new key) → Updates old new key (Some same.after)
 same_updates old new key same = Updates-set old new key (Some same.after) (ContainsKey-within old key (ap is_some same.had)) same.slots
 
-pub same_slots : (old new : Slab TreeNode) (key : ℕ) → StaySame old new key → map slot_of new.slots ≡ map slot_of old.slots
+pub same_slots : (old new : Slab TreeNode) (key : ℕ) → StaySame old new key → map node_in_slot new.slots ≡ map node_in_slot old.slots
 same_slots old new key same =
-    ap (map slot_of) same.slots
-    ∙ map-set_same slot_of old.slots key (Some same.after) None (ap Some (same_node same.before same.after same.same) ∙ sym (ap slot_of same.had))
+    ap (map node_in_slot) same.slots
+    ∙ map-set_same node_in_slot old.slots key (Some same.after) None (ap Some (same_node same.before same.after same.same) ∙ sym (ap node_in_slot same.had))
 
 -- ---- a kept tree
 abbrev pub with_nodes : Inside → Slab TreeNode → Inside

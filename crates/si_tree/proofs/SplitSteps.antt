@@ -39,7 +39,7 @@ use Rattle.si_tree.specs.declared.tree.Tree.TheInside.{Inside}
 use Rattle.si_tree.specs.Changes.{parts_of, AreWholeParts, HasSplitLeaf}
 use Rattle.si_tree.specs.Decoding.{term_of, bindings_of}
 use Rattle.si_tree.specs.Heads.{HasHead, HeadsAt, AreHeadsOf}
-use Rattle.si_tree.specs.KeptNodes.{node_of, slot_of, tree_of, content_of, heads_of, moved_below, KnowsHeads, IsKept, IsPutBetween, IsFork, IsLeafWith}
+use Rattle.si_tree.specs.KeptNodes.{node_of, node_in_slot, tree_of, content_of, heads_of, moved_below, KnowsHeads, IsKept, IsPutBetween, IsFork, IsLeafWith}
 use Rattle.si_tree.specs.Rights.{beyond_rights}
 use Rattle.si_tree.proofs.SlotLaws.{slot_read, node_read, vacant_read}
 use Rattle.si_tree.proofs.ChildLaws.{same_split, same_children}
@@ -144,8 +144,8 @@ module _ (old new : Inside) (key parent first : ℕ) (split : Split) (others : L
   below : (node_of s.put.node).parent ≡ Some parent
   below = ap (λ n. n.parent) node_is ∙ s.may.reached.2.0 ∙ ap Some s.with_parent
 
-  other_slot : (k : ℕ) → k ≢ key → k ≢ parent → k ≢ f → k ≢ lk → get_or (map slot_of new.nodes.slots) k None ≡ get_or (map slot_of old.nodes.slots) k None
-  other_slot k a b c d = slot_read new.nodes.slots k ∙ ap slot_of (s.put.others k a b c d) ∙ sym (slot_read old.nodes.slots k)
+  other_slot : (k : ℕ) → k ≢ key → k ≢ parent → k ≢ f → k ≢ lk → get_or (map node_in_slot new.nodes.slots) k None ≡ get_or (map node_in_slot old.nodes.slots) k None
+  other_slot k a b c d = slot_read new.nodes.slots k ∙ ap node_in_slot (s.put.others k a b c d) ∙ sym (slot_read old.nodes.slots k)
 
   fork_vacant : IsVacant (tree_of old) f
   fork_vacant = vacant_read old.nodes.slots f s.put.fork_vacant
@@ -186,7 +186,7 @@ module _ (old new : Inside) (key parent first : ℕ) (split : Split) (others : L
 
   -- ---- the tree, with any bound on variables that has room for the leaf's term
   abbrev with_vars : ℕ → Tree Term
-  with_vars v = record { nodes = map slot_of new.nodes.slots; root = new.root; next = new.next; vars = v }
+  with_vars v = record { nodes = map node_in_slot new.nodes.slots; root = new.root; next = new.next; vars = v }
 
   keeps_others : (v k : ℕ) (node : Node Term) → k ≢ key → HasNode (tree_of old) k node → (other : Node Term) × HasNode (with_vars v) k other × (other.parent ≡ node.parent) × (other.bindings ≡ node.bindings)
   keeps_others v k node apart has = elim (cases_eq k parent) as (λ _. (other : Node Term) × HasNode (with_vars v) k other × (other.parent ≡ node.parent) × (other.bindings ≡ node.bindings)) [

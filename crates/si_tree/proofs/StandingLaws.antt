@@ -8,7 +8,7 @@ use Rattle.si_defs.specs.Substitutions.{IsAmong}
 use Rattle.si_legal.specs.declared.Posting.{Posting}
 use Rattle.si_tree.specs.declared.postings.Slot.{Slot}
 use Rattle.si_tree.specs.Changes.{IsWithout}
-use Rattle.si_tree.specs.Slots.{filled, posting_in, put_if, stands, standing, HasPostingAt}
+use Rattle.si_tree.specs.Slots.{filled_slot, posting_in, put_if, stands, standing, HasPostingAt}
 
 put_before : (b : Bool) (p : Posting) (ps qs : List Posting) → put_if b p (ps ++ qs) ≡ put_if b p ps ++ qs
 put_before true p ps qs = refl
@@ -27,21 +27,21 @@ few_standing [] = omega arith
 few_standing (s ∷ ss) = omega (arith, put_few (stands s) (posting_in s) (standing ss), few_standing ss)
 
 -- one more
-pub standing_pushed : (ss : List Slot) (p : Posting) (new : List Slot) → new ≡ ss ++ filled p ∷ [] → stands (filled p) ≡ true → standing new ≡ standing ss ++ p ∷ []
-standing_pushed ss p new e there = ap standing e ∙ standing_split ss (filled p ∷ []) ∙ ap (λ b. standing ss ++ put_if b p []) there
+pub standing_pushed : (ss : List Slot) (p : Posting) (new : List Slot) → new ≡ ss ++ filled_slot p ∷ [] → stands (filled_slot p) ≡ true → standing new ≡ standing ss ++ p ∷ []
+standing_pushed ss p new e there = ap standing e ∙ standing_split ss (filled_slot p ∷ []) ∙ ap (λ b. standing ss ++ put_if b p []) there
 
-pub pushed_length : (ss : List Slot) (p : Posting) (new : List Slot) → new ≡ ss ++ filled p ∷ [] → stands (filled p) ≡ true → length (standing new) ≡ length (standing ss) + 1
+pub pushed_length : (ss : List Slot) (p : Posting) (new : List Slot) → new ≡ ss ++ filled_slot p ∷ [] → stands (filled_slot p) ≡ true → length (standing new) ≡ length (standing ss) + 1
 pushed_length ss p new e there = ap length (standing_pushed ss p new e there) ∙ length-append (standing ss) (p ∷ [])
 
 -- the posting that stood there goes
 pub emptied : (ss : List Slot) (n : ℕ) (p : Posting) (s : Slot) → HasPostingAt ss n p → stands s ≡ false → IsWithout (standing ss) p (standing (slice_set ss n s))
 emptied [] n p s there f = absurd (by there.0) where
-  by : slice_get [] n ≡ Some (filled p) → ⊥
+  by : slice_get [] n ≡ Some (filled_slot p) → ⊥
   by g = cc
 emptied (x ∷ xs) zero p s there f = record {
   before = [];
   after = standing xs;
-  old_is = ap (λ z. put_if (stands z) (posting_in z) (standing xs)) (same_Some x (filled p) there.0) ∙ ap (λ b. put_if b p (standing xs)) there.1;
+  old_is = ap (λ z. put_if (stands z) (posting_in z) (standing xs)) (same_Some x (filled_slot p) there.0) ∙ ap (λ b. put_if b p (standing xs)) there.1;
   new_is = ap (λ b. put_if b (posting_in s) (standing xs)) f;
 }
 emptied (x ∷ xs) (suc n) p s there f =
@@ -54,13 +54,13 @@ emptied (x ∷ xs) (suc n) p s there f =
     }
 
 -- ---- one slot
-pub one_stands : (p : Posting) (s : Slot) → s ≡ filled p → stands s ≡ true → standing (s ∷ []) ≡ p ∷ []
+pub one_stands : (p : Posting) (s : Slot) → s ≡ filled_slot p → stands s ≡ true → standing (s ∷ []) ≡ p ∷ []
 one_stands p s is there = standing_pushed [] p (s ∷ []) (ap (λ x. x ∷ []) is) (sym (ap stands is) ∙ there)
 
 pub none_stands : (s : Slot) → stands s ≡ false → standing (s ∷ []) ≡ []
 none_stands s f = ap (λ b. put_if b (posting_in s) []) f
 
-pub two_stand : (s : Slot) (p : Posting) (new : List Slot) → new ≡ s ∷ filled p ∷ [] → stands s ≡ true → stands (filled p) ≡ true → standing new ≡ posting_in s ∷ p ∷ []
+pub two_stand : (s : Slot) (p : Posting) (new : List Slot) → new ≡ s ∷ filled_slot p ∷ [] → stands s ≡ true → stands (filled_slot p) ≡ true → standing new ≡ posting_in s ∷ p ∷ []
 two_stand s p new e first second =
     standing_pushed (s ∷ []) p new e second ∙ ap (λ b. put_if b (posting_in s) [] ++ p ∷ []) first
 
@@ -81,9 +81,9 @@ pub met : (ss : List Slot) (i : ℕ) (d : Slot) → i < length ss → stands (ge
 met ss i d lt e = ap standing (drop_more ss i d lt) ∙ ap (λ b. put_if b (posting_in (get_or ss i d)) (standing (drop (i + 1) ss))) e
 
 -- ---- where a posting stands
-stands_there : (b : Bool) (s : Slot) (p : Posting) → stands s ≡ b → IsAmong (put_if b (posting_in s) []) p → (s ≡ filled p) × (stands (filled p) ≡ true)
+stands_there : (b : Bool) (s : Slot) (p : Posting) → stands s ≡ b → IsAmong (put_if b (posting_in s) []) p → (s ≡ filled_slot p) × (stands (filled_slot p) ≡ true)
 stands_there true s p e (inl same) =
-    let is : s ≡ filled p = λ i. record { clause = (same i).clause; entry = (same i).entry } in
+    let is : s ≡ filled_slot p = λ i. record { clause = (same i).clause; entry = (same i).entry } in
     (is, sym (ap stands is) ∙ e)
 stands_there true s p e (inr nothing) = absurd nothing
 stands_there false s p e nothing = absurd nothing

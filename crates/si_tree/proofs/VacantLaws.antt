@@ -7,7 +7,7 @@ use Rattle.si_legal.specs.Counts.{counted}
 use Rattle.si_flat.specs.Rows.{CellPair}
 use Rattle.si_tree.specs.declared.node.Head.{Head}
 use Rattle.si_tree.specs.Nodes.{TreeNode}
-use Rattle.si_tree.specs.KeptNodes.{slot_of, content_of, moved_below, HasChildBy, IsBelowBy, RelinksChild}
+use Rattle.si_tree.specs.KeptNodes.{node_in_slot, content_of, moved_below, HasChildBy, IsBelowBy, RelinksChild}
 use Rattle.si_tree.specs.Dropping.{LosesChild, HasBesides, MayTakeOut, IsTakenOut, MayTakeBoth, AreTakenOut}
 use Rattle.si_tree.proofs.CountLaws.{weight}
 use Rattle.si_tree.proofs.LeafSteps.{slab_counts}
@@ -44,12 +44,12 @@ taken_out s0 s1 s2 key parent n a b may had below one got two head stood loses =
   apart : parent ≢ key
   apart = subst (λ k. k ≢ key) same may.apart
 
-  counts : (count : trees.Content → ℕ) → counted count (map slot_of s2.slots) + count (content_of n.content) + count (content_of a.content) ≡ counted count (map slot_of s0.slots) + count (content_of b.content)
+  counts : (count : trees.Content → ℕ) → counted count (map node_in_slot s2.slots) + count (content_of n.content) + count (content_of a.content) ≡ counted count (map node_in_slot s0.slots) + count (content_of b.content)
   counts count =
       let first = slab_counts count s0 s1 key None one in
       let second = slab_counts count s1 s2 parent (Some b) two in
-      let w : weight count (slot_of (get s0 key)) ≡ count (content_of n.content) = ap (λ x. weight count (slot_of x)) had in
-      let v : weight count (slot_of (get s1 parent)) ≡ count (content_of a.content) = ap (λ x. weight count (slot_of x)) got in
+      let w : weight count (node_in_slot (get s0 key)) ≡ count (content_of n.content) = ap (λ x. weight count (node_in_slot x)) had in
+      let v : weight count (node_in_slot (get s1 parent)) ≡ count (content_of a.content) = ap (λ x. weight count (node_in_slot x)) got in
       omega (arith, first, second, w, v)
 
 -- ---- the keys that are read
@@ -116,14 +116,14 @@ module _ (s0 : Slab TreeNode) (key : ℕ) (may : MayTakeBoth s0 key) where
       same_upper : a ≡ may.upper_node
       same_upper = same_Some a may.upper_node (sym got_upper ∙ upper_there s3 (moved_below b may.upper cells) three)
 
-      counts : (count : trees.Content → ℕ) → counted count (map slot_of s4.slots) + count (content_of may.node.content) + count (content_of may.parent_node.content) + count (content_of may.upper_node.content) ≡ counted count (map slot_of s0.slots) + count (content_of l.content)
+      counts : (count : trees.Content → ℕ) → counted count (map node_in_slot s4.slots) + count (content_of may.node.content) + count (content_of may.parent_node.content) + count (content_of may.upper_node.content) ≡ counted count (map node_in_slot s0.slots) + count (content_of l.content)
       counts count =
           let first = slab_counts count s0 s1 key None one in
           let second = slab_counts count s1 s2 may.parent None two in
           let third = slab_counts count s2 s3 may.other (Some (moved_below b may.upper cells)) three in
           let fourth = slab_counts count s3 s4 may.upper (Some l) four in
-          let w : weight count (slot_of (get s0 key)) ≡ count (content_of may.node.content) = ap (λ x. weight count (slot_of x)) may.has in
-          let v : weight count (slot_of (get s1 may.parent)) ≡ count (content_of may.parent_node.content) = ap (λ x. weight count (slot_of x)) (one.others may.parent (apart_back key may.parent key_parent) ∙ may.has_parent) in
-          let u : weight count (slot_of (get s2 may.other)) ≡ count (content_of b.content) = ap (λ x. weight count (slot_of x)) got_other in
-          let t : weight count (slot_of (get s3 may.upper)) ≡ count (content_of may.upper_node.content) = ap (λ x. weight count (slot_of x)) (upper_there s3 (moved_below b may.upper cells) three) in
+          let w : weight count (node_in_slot (get s0 key)) ≡ count (content_of may.node.content) = ap (λ x. weight count (node_in_slot x)) may.has in
+          let v : weight count (node_in_slot (get s1 may.parent)) ≡ count (content_of may.parent_node.content) = ap (λ x. weight count (node_in_slot x)) (one.others may.parent (apart_back key may.parent key_parent) ∙ may.has_parent) in
+          let u : weight count (node_in_slot (get s2 may.other)) ≡ count (content_of b.content) = ap (λ x. weight count (node_in_slot x)) got_other in
+          let t : weight count (node_in_slot (get s3 may.upper)) ≡ count (content_of may.upper_node.content) = ap (λ x. weight count (node_in_slot x)) (upper_there s3 (moved_below b may.upper cells) three) in
           omega (arith, first, second, third, fourth, w, v, u, t)

@@ -24,12 +24,12 @@ terms_of (cell.App s arity n ∷ cells) =
     ∷ drop arity (terms_of cells)
 
 -- the first of them, and any term where there is none
-abbrev pub first_of : List Term → Term
-first_of [] = terms.var (query 0)
-first_of (t ∷ ts) = t
+abbrev pub first_term_of : List Term → Term
+first_term_of [] = terms.var (query 0)
+first_term_of (t ∷ ts) = t
 
 abbrev pub term_of : List Cell → Term
-term_of cells = first_of (terms_of cells)
+term_of cells = first_term_of (terms_of cells)
 
 abbrev pub bindings_of : List CellPair → List Binding
 bindings_of bs = map (λ b. (b.0, term_of b.1)) bs

@@ -14,7 +14,7 @@ use Rattle.si_changes.specs.Leaves.{MayDropLeaf, DropsLeaf}
 use Rattle.si_changes.specs.Joins.{MayJoin, Joins}
 use Rattle.si_tree.specs.declared.node.Head.{Head}
 use Rattle.si_tree.specs.Nodes.{TreeNode}
-use Rattle.si_tree.specs.KeptNodes.{slot_of, content_of, heads_of, moved_below, IsBelow, RelinksChild}
+use Rattle.si_tree.specs.KeptNodes.{node_in_slot, content_of, heads_of, moved_below, IsBelow, RelinksChild}
 
 -- ---- the tree
 -- the bindings of the leaf's parent composed with those of its other child
@@ -90,9 +90,9 @@ pub record IsTakenOut (old new : Slab TreeNode) (key : ℕ) : Type 0 where
   pub loses : LosesChild above after key
   pub others : (k : ℕ) → k ≢ key → k ≢ parent → get new k ≡ get old k
   pub counts : (count : trees.Content → ℕ)
-      → counted count (map slot_of new.slots) + count (content_of node.content)
+      → counted count (map node_in_slot new.slots) + count (content_of node.content)
       + count (content_of above.content)
-      ≡ counted count (map slot_of old.slots) + count (content_of after.content)
+      ≡ counted count (map node_in_slot old.slots) + count (content_of after.content)
 
 -- ---- a leaf and its parent
 pub record MayTakeBoth (nodes : Slab TreeNode) (key : ℕ) : Type 0 where
@@ -124,6 +124,6 @@ pub record AreTakenOut (old new : Slab TreeNode) (key : ℕ) (bindings : List Ce
   pub others : (k : ℕ) → k ≢ key → k ≢ may.parent → k ≢ may.other → k ≢ may.upper
       → get new k ≡ get old k
   pub counts : (count : trees.Content → ℕ)
-      → counted count (map slot_of new.slots) + count (content_of may.node.content)
+      → counted count (map node_in_slot new.slots) + count (content_of may.node.content)
       + count (content_of may.parent_node.content) + count (content_of may.upper_node.content)
-      ≡ counted count (map slot_of old.slots) + count (content_of linked.content)
+      ≡ counted count (map node_in_slot old.slots) + count (content_of linked.content)

@@ -41,13 +41,13 @@ node_of n = record {
   content = content_of n.content;
 }
 
-abbrev pub slot_of : Option TreeNode → Option (Node Term)
-slot_of None = None
-slot_of (Some n) = Some (node_of n)
+abbrev pub node_in_slot : Option TreeNode → Option (Node Term)
+node_in_slot None = None
+node_in_slot (Some n) = Some (node_of n)
 
 abbrev pub tree_of : Inside → Tree Term
 tree_of t = record {
-  nodes = map slot_of t.nodes.slots;
+  nodes = map node_in_slot t.nodes.slots;
   root = t.root;
   next = t.next;
   vars = t.vars;
@@ -240,7 +240,7 @@ pub record IsPutBetween (old new : Slab TreeNode) (key parent : ℕ) (fork : Tre
   pub others : (k : ℕ) → k ≢ key → k ≢ parent → k ≢ fork_key → k ≢ leaf_key
       → get new k ≡ get old k
   pub counts : (count : trees.Content → ℕ)
-      → counted count (map slot_of new.slots) + count (content_of above.content)
-      ≡ counted count (map slot_of old.slots) + count (content_of forked.content)
+      → counted count (map node_in_slot new.slots) + count (content_of above.content)
+      ≡ counted count (map node_in_slot old.slots) + count (content_of forked.content)
       + count (content_of leaf_node.content) + count (content_of linked.content)
   pub number : slab_len new ≡ slab_len old + 2

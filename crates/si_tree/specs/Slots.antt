@@ -7,8 +7,8 @@ use Rattle.si_tree.specs.declared.postings.Slot.{Slot}
 use Rattle.si_tree.specs.declared.postings.TheConstants.{GONE}
 
 -- the slot in which a posting stands
-abbrev pub filled : Posting → Slot
-filled p = record { clause = p.clause; entry = p.entry }
+abbrev pub filled_slot : Posting → Slot
+filled_slot p = record { clause = p.clause; entry = p.entry }
 
 -- a posting stands there still
 abbrev pub stands : Slot → Bool
@@ -29,7 +29,8 @@ standing (s ∷ ss) = put_if (stands s) (posting_in s) (standing ss)
 
 -- the posting stands in the slot at this place
 abbrev pub HasPostingAt : List Slot → ℕ → Posting → Type 0
-HasPostingAt ss place p = (slice_get ss place ≡ Some (filled p)) × (stands (filled p) ≡ true)
+HasPostingAt ss place p =
+    (slice_get ss place ≡ Some (filled_slot p)) × (stands (filled_slot p) ≡ true)
 
 -- how many postings a list has
 abbrev pub count_in : PostingCount → ℕ

@@ -3,7 +3,7 @@ ghost use Rattle.std.specs.Prelude.{◌≡◌, ◌↔◌, ◌<◌, ◌≤◌, �
 ghost use Rattle.si_defs.specs.Substitutions.{IsAmong};
 ghost use Rattle.si_legal.specs.declared.Posting as posting;
 ghost use Rattle.si_tree.specs.Changes.{IsWithout};
-ghost use Rattle.si_tree.specs.Slots.{filled, posting_in, standing, stands, HasPostingAt};
+ghost use Rattle.si_tree.specs.Slots.{filled_slot, posting_in, standing, stands, HasPostingAt};
 
 use crate::count::PostingCount;
 use si_legal::Posting;
@@ -200,7 +200,7 @@ impl Slot {
     /// The slot in which the posting stands. A posting that no slot can hold is answered as want of
     /// memory: its clause has a key beyond 32 bits, or its entry a number beyond 31.
     pub(crate) fn of(posting: Posting) -> Result<Slot, AllocError>
-        ensures is { IfOk result (λ slot. slot ≡ filled posting) }
+        ensures is { IfOk result (λ slot. slot ≡ filled_slot posting) }
         ensures stands { IfOk result (λ slot. stands slot ≡ true) }
         ensures err { OnErr result ((2 ^ 32 ≤ posting.clause) ⊎ (2 ^ 31 ≤ posting.entry)) }
     {

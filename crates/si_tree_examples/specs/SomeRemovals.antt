@@ -6,7 +6,7 @@ use Rattle.si_legal.specs.Trees.{Node, Tree}
 use Rattle.si_legal.specs.Legal.{IsLegal}
 use Rattle.si_legal.specs.Counts.{node_count, leaf_count, unmerged_count}
 use Rattle.si_changes.specs.Joins.{MayJoin, Joins}
-use Rattle.si_prune.specs.Pruning.{RemovesWhole, LeavesUnmerged, Removes}
+use Rattle.si_prune.specs.Pruning.{RemovesWhole, LeavesUnmerged, RemovesPosting}
 use Rattle.si_tree_examples.specs.SomeTerms.{f, a, b, c}
 use Rattle.si_tree_examples.specs.SomeTrees.{posting, root, leaf_holding, leaf_of, five_of, five_nodes, five_unmerged}
 
@@ -66,8 +66,9 @@ NoLeafLeft = RemovesWhole five_nodes five_unmerged 3 (posting 1) → ⊥
 -- a removal that doesn't tell whether it is whole may do either
 abbrev pub RemovesEither : Type 0
 RemovesEither =
-    Removes five_nodes three_nodes 3 (posting 1) × Removes five_nodes five_unmerged 3 (posting 1)
+    RemovesPosting five_nodes three_nodes 3 (posting 1)
+    × RemovesPosting five_nodes five_unmerged 3 (posting 1)
 
 -- no leaf stays without a posting below the root, where no join is due
 abbrev pub NoLeafBelowRoot : Type 0
-NoLeafBelowRoot = Removes five_nodes (five_of (posting 1 ∷ []) []) 4 (posting 2) → ⊥
+NoLeafBelowRoot = RemovesPosting five_nodes (five_of (posting 1 ∷ []) []) 4 (posting 2) → ⊥

@@ -12,7 +12,7 @@ use Rattle.si_defs.proofs.ListLaws.{all_weaker}
 use Rattle.si_unify.specs.declared.spots.SpotPair.{SpotPair}
 use Rattle.si_unify.specs.declared.spots.Question.{Question}
 use Rattle.si_unify.specs.Solving.{Pairs, slot_count, AreInRange, Equalizes, IsSolvedBy, IsAcyclic, IsBinding, IsSolution, IsCommon, HasSolved}
-use Rattle.si_unify.specs.Spots.{text, IsAt, left_spot, right_spot, StandsAt, IsSubterm, at_spot, IsLegal, MakesEqual, MakesEqualUpTo, HasMet, HasClosed, HasAnswered}
+use Rattle.si_unify.specs.Spots.{text, IsAt, left_spot, right_spot, SpotStandsFor, IsSubterm, at_spot, IsSoundQuestion, MakesEqual, MakesEqualUpTo, HasMetSpots, HasClosed, HasAnswered}
 use Rattle.si_unify.specs.Circles.{SaysTriangular}
 use Rattle.si_unify.proofs.Places.{whole_at}
 use Rattle.si_unify.proofs.Pieces.{handed_on}
@@ -22,13 +22,13 @@ use Rattle.si_unify.proofs.Weights.{triangular_of_solved}
 use Rattle.si_unify.proofs.Solutions.{solved_of_triangular}
 
 -- the two terms stand at their spots
-pub left_stands : (q : Question) (pairs : Pairs) (t : Term) → StandsFor q.left.now t → StandsAt q pairs (left_spot q) t
+pub left_stands : (q : Question) (pairs : Pairs) (t : Term) → StandsFor q.left.now t → SpotStandsFor q pairs (left_spot q) t
 left_stands q pairs t h = subst (λ l. IsAt l 0 t) (sym here) (whole_at q.left.now t h)
   where
     here : text q pairs (slot_count q.slots) ≡ q.left.now
     here = rw (eq-eqb (slot_count q.slots) (slot_count q.slots) refl) refl
 
-pub right_stands : (q : Question) (pairs : Pairs) (t : Term) → StandsFor q.right.now t → StandsAt q pairs (right_spot q) t
+pub right_stands : (q : Question) (pairs : Pairs) (t : Term) → StandsFor q.right.now t → SpotStandsFor q pairs (right_spot q) t
 right_stands q pairs t h = subst (λ l. IsAt l 0 t) (sym here) (whole_at q.right.now t h)
   where
     differs : (n : ℕ) → ((n + 1) == n) ≡ false
@@ -38,7 +38,7 @@ right_stands q pairs t h = subst (λ l. IsAt l 0 t) (sym here) (whole_at q.right
     here = rw (differs (slot_count q.slots), eq-eqb (slot_count q.slots + 1) (slot_count q.slots + 1) refl) refl
 
 -- the same, where the slots have been counted
-pub left_subterm : (q : Question) (pairs : Pairs) (n : ℕ) → n ≡ slot_count q.slots → IsLegal q pairs → IsSubterm q pairs (at_spot (record { base = n; at = 0 }) q.left)
+pub left_subterm : (q : Question) (pairs : Pairs) (n : ℕ) → n ≡ slot_count q.slots → IsSoundQuestion q pairs → IsSubterm q pairs (at_spot (record { base = n; at = 0 }) q.left)
 left_subterm q pairs n e legal =
     subst (λ k. IsSubterm q pairs (at_spot (record { base = k; at = 0 }) q.left)) (sym e) (
     record {
@@ -48,7 +48,7 @@ left_subterm q pairs n e legal =
     }
     )
 
-pub right_subterm : (q : Question) (pairs : Pairs) (n : ℕ) → n ≡ slot_count q.slots → IsLegal q pairs → IsSubterm q pairs (at_spot (record { base = n + 1; at = 0 }) q.right)
+pub right_subterm : (q : Question) (pairs : Pairs) (n : ℕ) → n ≡ slot_count q.slots → IsSoundQuestion q pairs → IsSubterm q pairs (at_spot (record { base = n + 1; at = 0 }) q.right)
 right_subterm q pairs n e legal =
     subst (λ k. IsSubterm q pairs (at_spot (record { base = k + 1; at = 0 }) q.right)) (sym e) (
     record {
@@ -61,12 +61,12 @@ right_subterm q pairs n e legal =
 pub met_at :
     (q : Question) (old new : Pairs) (old_keys new_keys : List SpotPair) (n : ℕ) (b : Bool)
     → n ≡ slot_count q.slots
-    → HasMet q old new old_keys new_keys (record { base = n; at = 0 }) (record { base = n + 1; at = 0 }) b
-    → HasMet q old new old_keys new_keys (left_spot q) (right_spot q) b
+    → HasMetSpots q old new old_keys new_keys (record { base = n; at = 0 }) (record { base = n + 1; at = 0 }) b
+    → HasMetSpots q old new old_keys new_keys (left_spot q) (right_spot q) b
 met_at q old new old_keys new_keys n b e h =
-    subst (λ k. HasMet q old new old_keys new_keys (record { base = k; at = 0 }) (record { base = k + 1; at = 0 }) b) e h
+    subst (λ k. HasMetSpots q old new old_keys new_keys (record { base = k; at = 0 }) (record { base = k + 1; at = 0 }) b) e h
 
-pub legal_at_first : (q : Question) (pairs : Pairs) → AllByRecursion (IsBinding q.slots) pairs → IsAcyclic q.slots pairs → IsWhole q.left.now → IsWhole q.right.now → AreInRange q.slots q.left.now → AreInRange q.slots q.right.now → IsLegal q pairs
+pub legal_at_first : (q : Question) (pairs : Pairs) → AllByRecursion (IsBinding q.slots) pairs → IsAcyclic q.slots pairs → IsWhole q.left.now → IsWhole q.right.now → AreInRange q.slots q.left.now → AreInRange q.slots q.right.now → IsSoundQuestion q pairs
 legal_at_first q pairs bindings triangular left right left_range right_range = record {
   bindings = bindings;
   left_whole = left;
@@ -84,8 +84,8 @@ pub front_within : {X : Type 0} (old new : List X) → Grows old new → length 
 front_within old new grows = omega (arith, ap length grows.1, length-append old grows.0)
 
 -- ---- the answers
-module _ (q : Question) (old mid : Pairs) (first keys : List SpotPair) (empty : first ≡ []) (legal : IsLegal q old) where
-  module _ (met : HasMet q old mid first keys (left_spot q) (right_spot q) true) where
+module _ (q : Question) (old mid : Pairs) (first keys : List SpotPair) (empty : first ≡ []) (legal : IsSoundQuestion q old) where
+  module _ (met : HasMetSpots q old mid first keys (left_spot q) (right_spot q) true) where
     complete_so_far : (f : Variable → Term) → IsSolvedBy q.slots old f → Equalizes f q.left.now q.right.now → IsSolvedBy q.slots mid f × AllByRecursion (MakesEqual q mid f) keys
     complete_so_far f solved equal =
         (met.1 legal.left_whole.0 legal.right_whole.0 (left_stands q old _ legal.left_whole.1) (right_stands q old _ legal.right_whole.1)).complete
@@ -122,7 +122,7 @@ module _ (q : Question) (old mid : Pairs) (first keys : List SpotPair) (empty : 
     pub answered_unclosed : (new : Pairs) → HasClosed q mid new keys false → HasAnswered q old new false
     answered_unclosed new closed = λ f solved equal. let h = complete_so_far f solved equal in closed f h.0 h.1
 
-  pub answered_unmet : (new : Pairs) → HasMet q old mid first keys (left_spot q) (right_spot q) false → HasAnswered q old new false
+  pub answered_unmet : (new : Pairs) → HasMetSpots q old mid first keys (left_spot q) (right_spot q) false → HasAnswered q old new false
   answered_unmet new met = λ f solved equal.
       met legal.left_whole.0 legal.right_whole.0 (left_stands q old _ legal.left_whole.1) (right_stands q old _ legal.right_whole.1)
       f solved (equal legal.left_whole.0 legal.right_whole.0 legal.left_whole.1 legal.right_whole.1)

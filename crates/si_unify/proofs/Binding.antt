@@ -18,7 +18,7 @@ use Rattle.si_unify.specs.declared.spots.Subterm.{Subterm}
 use Rattle.si_unify.specs.declared.spots.Question.{Question}
 use Rattle.si_unify.proofs.Pieces.{handed_one_more, piece_at}
 use Rattle.si_unify.specs.Solving.{IsHandedIn, IsPieceOf, Pairs, slot_count, slot_of, variable_of, is_frozen, IsInRange, CellIsInRange, AreInRange, Equalizes, IsSolvedBy, IsBinding}
-use Rattle.si_unify.specs.Spots.{cells_now, text, IsAt, StandsAt, IsSpot, IsSubterm, at_spot, Binds, cell_slot, IsBelow, ComesDown, IsChained, IsLegal, MakesEqual, IsApart, ArePairs, Meets, IsGoingOn, IsUnbound}
+use Rattle.si_unify.specs.Spots.{cells_now, text, IsAt, SpotStandsFor, IsSpot, IsSubterm, at_spot, Binds, cell_slot, ChainComesDown, ComesDown, IsChained, IsSoundQuestion, MakesEqual, IsApart, ArePairs, Meets, IsGoingOn, IsUnbound}
 use Rattle.si_unify.proofs.Reading.{same_term, one_term}
 use Rattle.si_unify.proofs.Lists.{apart_from, still_bound}
 use Rattle.si_unify.proofs.Places.{value_holds, at_unique, first_cell, first_of, inside, text_in_range, variable_of-slot_of}
@@ -39,14 +39,14 @@ text_stays q pairs more base some =
     value_stays None e some = let none : 0 < length (cells_now None) = rw e at some in absurd (omega arith)
     value_stays (Some v) e some = ap cells_now (still_bound pairs more base v e ∙ sym e)
 
-some_text : (q : Question) (pairs : Pairs) (spot : Spot) (t : Term) → StandsAt q pairs spot t → 0 < length (text q pairs spot.base)
+some_text : (q : Question) (pairs : Pairs) (spot : Spot) (t : Term) → SpotStandsFor q pairs spot t → 0 < length (text q pairs spot.base)
 some_text q pairs spot t stands = omega (arith, inside _ _ t stands)
 
-pub stands_still : (q : Question) (pairs more : Pairs) (spot : Spot) (t : Term) → StandsAt q pairs spot t → StandsAt q (pairs ++ more) spot t
+pub stands_still : (q : Question) (pairs more : Pairs) (spot : Spot) (t : Term) → SpotStandsFor q pairs spot t → SpotStandsFor q (pairs ++ more) spot t
 stands_still q pairs more spot t stands = subst (λ l. IsAt l spot.at t) (sym (text_stays q pairs more spot.base (some_text q pairs spot t stands))) stands
 
 -- a spot that stood before has the term that it had
-pub stood : (q : Question) (pairs more : Pairs) (spot : Spot) (t u : Term) → StandsAt q pairs spot t → StandsAt q (pairs ++ more) spot u → StandsAt q pairs spot u
+pub stood : (q : Question) (pairs more : Pairs) (spot : Spot) (t u : Term) → SpotStandsFor q pairs spot t → SpotStandsFor q (pairs ++ more) spot u → SpotStandsFor q pairs spot u
 stood q pairs more spot t u before after = subst (λ l. IsAt l spot.at u) (text_stays q pairs more spot.base (some_text q pairs spot t before)) after
 
 pub apart_still : (q : Question) (pairs more : Pairs) (pair : SpotPair) → IsApart q pairs pair → IsApart q (pairs ++ more) pair
@@ -83,7 +83,7 @@ cut_stands cells piece at u stands e whole =
     subst (StandsFor piece) (at_unique cells at whole.0 u at_w stands) whole.1
 
 -- the cells of a subterm stand for the term at its spot
-pub same_whole : (q : Question) (pairs : Pairs) (s : Subterm) (t : Term) → IsSubterm q pairs s → StandsAt q pairs s.spot t → StandsFor s.cells.now t
+pub same_whole : (q : Question) (pairs : Pairs) (s : Subterm) (t : Term) → IsSubterm q pairs s → SpotStandsFor q pairs s.spot t → StandsFor s.cells.now t
 same_whole q pairs s t is stands = subst (StandsFor s.cells.now) (at_unique _ _ is.term t is.stands stands) is.whole
 
 -- the cells of the term at a spot
@@ -106,7 +106,7 @@ piece_in_range slots cells piece range h =
 
 pub binds_subterm :
     (q : Question) (old new : Pairs) (slot : ℕ) (s : Subterm)
-    → IsLegal q old
+    → IsSoundQuestion q old
     → IsSubterm q old s
     → new ≡ old ++ (slot, s.cells) ∷ []
     → Binds q old new slot s.spot
@@ -146,7 +146,7 @@ bound_apart : (pairs : Pairs) (o : Option ℕ) → IsUnbound pairs o → AllByRe
 bound_apart pairs None ends = none_all pairs
 bound_apart pairs (Some k) ends = all_weaker (λ pair. pair.0 ≢ k) (λ pair. k ≢ pair.0) pairs (λ pair h e. h (sym e)) (apart_from pairs k ends)
 
-below_still : (o : Option ℕ) (rank : ℕ → ℕ) (slot : ℕ) (next : Option ℕ) → IsNot o slot → IsBelow rank slot next → IsBelow (λ k. above o k (rank k)) slot next
+below_still : (o : Option ℕ) (rank : ℕ → ℕ) (slot : ℕ) (next : Option ℕ) → IsNot o slot → ChainComesDown rank slot next → ChainComesDown (λ k. above o k (rank k)) slot next
 below_still o rank slot None differs h = tt
 below_still o rank slot (Some next) differs h =
     let here : above o slot (rank slot) ≡ rank slot + 1 = above_exact o slot (rank slot) differs in
@@ -156,18 +156,18 @@ down_still : (slots : Slots) (o : Option ℕ) (rank : ℕ → ℕ) (slot : ℕ) 
 down_still slots o rank slot [] differs h = tt
 down_still slots o rank slot (c ∷ cells) differs h = below_still o rank slot (cell_slot slots c) differs h
 
-down_new : (o : Option ℕ) (rank : ℕ → ℕ) (slot : ℕ) → IsNot o slot → IsBelow (λ k. above o k (rank k)) slot o
+down_new : (o : Option ℕ) (rank : ℕ → ℕ) (slot : ℕ) → IsNot o slot → ChainComesDown (λ k. above o k (rank k)) slot o
 down_new None rank slot differs = tt
 down_new (Some target) rank slot differs =
     let here : above (Some target) slot (rank slot) ≡ rank slot + 1 = above_exact (Some target) slot (rank slot) differs in
     let there : above (Some target) target (rank target) ≡ 0 = rw (eq-eqb target target refl) refl in
     omega (arith, here, there)
 
-down_first : (slots : Slots) (rank : ℕ → ℕ) (slot : ℕ) (cells : List Cell) (u : Term) → StandsFor cells u → IsBelow rank slot (cell_slot slots (first_cell u)) → ComesDown slots rank slot cells
+down_first : (slots : Slots) (rank : ℕ → ℕ) (slot : ℕ) (cells : List Cell) (u : Term) → StandsFor cells u → ChainComesDown rank slot (cell_slot slots (first_cell u)) → ComesDown slots rank slot cells
 down_first slots rank slot [] u whole h = tt
 down_first slots rank slot (c ∷ cells) u whole h =
     let first : c ≡ first_cell u = ap (λ l. get_or l 0 c) (whole.cells_are ∙ sym (append-nil (cells_of u))) ∙ first_of u [] c in
-    subst (λ d. IsBelow rank slot (cell_slot slots d)) (sym first) h
+    subst (λ d. ChainComesDown rank slot (cell_slot slots d)) (sym first) h
 
 pub chained_bound :
     (slots : Slots) (pairs : Pairs) (slot : ℕ) (v : Bor (List Cell)) (u : Term)
@@ -198,7 +198,7 @@ chained_bound slots pairs slot v u chained whole ends differs =
 -- ---- binding a variable that is free and unbound
 -- what is known where the variable x is bound to the term u, whose cells are v
 pub record CanBind (q : Question) (pairs : Pairs) (keys : List SpotPair) (x : Variable) (u : Term) (slot : ℕ) (v : Bor (List Cell)) : Type 0 where
-  pub legal : IsLegal q pairs
+  pub legal : IsSoundQuestion q pairs
   pub apart : ArePairs q pairs keys
   pub slot_is : slot_of q.slots x ≡ slot
   pub range : IsInRange q.slots x
@@ -217,7 +217,7 @@ slot_below slots (ind n) h = omega arith
 back_of : (q : Question) (pairs : Pairs) (keys : List SpotPair) (x : Variable) (u : Term) (slot : ℕ) (v : Bor (List Cell)) → CanBind q pairs keys x u slot v → variable_of q.slots slot ≡ x
 back_of q pairs keys x u slot v h = ap (variable_of q.slots) (sym h.slot_is) ∙ variable_of-slot_of q.slots x h.range
 
-pub bound_legal : (q : Question) (pairs : Pairs) (keys : List SpotPair) (x : Variable) (u : Term) (slot : ℕ) (v : Bor (List Cell)) → CanBind q pairs keys x u slot v → IsLegal q (pairs ++ (slot, v) ∷ [])
+pub bound_legal : (q : Question) (pairs : Pairs) (keys : List SpotPair) (x : Variable) (u : Term) (slot : ℕ) (v : Bor (List Cell)) → CanBind q pairs keys x u slot v → IsSoundQuestion q (pairs ++ (slot, v) ∷ [])
 bound_legal q pairs keys x u slot v h = record {
   bindings = all_append (IsBinding q.slots) pairs ((slot, v) ∷ []) h.legal.bindings (
     record {
@@ -292,7 +292,7 @@ binding_goes_on q pairs keys x u slot v h = record {
 }
 
 -- ---- texts are whole
-pub text_whole : (q : Question) (pairs : Pairs) (spot : Spot) → IsLegal q pairs → IsSpot q pairs spot → IsWhole (text q pairs spot.base)
+pub text_whole : (q : Question) (pairs : Pairs) (spot : Spot) → IsSoundQuestion q pairs → IsSpot q pairs spot → IsWhole (text q pairs spot.base)
 text_whole q pairs spot legal stands =
     elim (eqb_tells spot.base (slot_count q.slots)) [
       | inl h ↦ rw h.0 legal.left_whole

@@ -11,7 +11,7 @@ use Rattle.si_unify.specs.declared.spots.Spot.{Spot}
 use Rattle.si_unify.specs.declared.spots.Subterm.{Subterm}
 use Rattle.si_unify.specs.declared.spots.Question.{Question}
 use Rattle.si_unify.specs.Solving.{Pairs, variable_of, CellIsInRange, Equalizes, IsSolvedBy, IsBinding}
-use Rattle.si_unify.specs.Spots.{IsAt, StandsAt, IsSpot, IsSubterm, at_spot, cell_at, cell_slot, IsBelow, ComesDown, IsLegal, IsUnbound, slot_at, ComesTo}
+use Rattle.si_unify.specs.Spots.{IsAt, SpotStandsFor, IsSpot, IsSubterm, at_spot, cell_at, cell_slot, ChainComesDown, ComesDown, IsSoundQuestion, IsUnbound, slot_at, ComesTo}
 use Rattle.si_unify.proofs.Places.{value_holds, whole_at, first_cell, cell-at, inside, in_range-at, in_range-variable, variable_of-slot_of, text-bound, text_in_range, slot_variable}
 
 abbrev pub no_cell : Cell
@@ -32,18 +32,18 @@ head_is q pairs s is =
 -- the term at the spot is one that each solution makes equal to t
 pub record Reaches (q : Question) (pairs : Pairs) (t : Term) (spot : Spot) : Type 0 where
   pub term : Term
-  pub stands : StandsAt q pairs spot term
+  pub stands : SpotStandsFor q pairs spot term
   pub same : (f : Variable → Term) → IsSolvedBy q.slots pairs f → terms.substitute f t ≡ terms.substitute f term
 
 -- so many steps down the chain
 pub record IsOnChain (q : Question) (pairs : Pairs) (from spot : Spot) (steps : ℕ) : Type 0 where
-  pub legal : IsLegal q pairs
-  pub comes : (t : Term) → StandsAt q pairs from t → Reaches q pairs t spot
+  pub legal : IsSoundQuestion q pairs
+  pub comes : (t : Term) → SpotStandsFor q pairs from t → Reaches q pairs t spot
   pub some : IsSpot q pairs from
   pub short : steps ≤ length pairs
   pub low : (slot : ℕ) → slot_at q pairs spot ≡ Some slot → legal.chained.rank slot + steps ≤ length pairs
 
-pub chain_starts : (q : Question) (pairs : Pairs) (from : Spot) → IsLegal q pairs → IsSpot q pairs from → IsOnChain q pairs from from 0
+pub chain_starts : (q : Question) (pairs : Pairs) (from : Spot) → IsSoundQuestion q pairs → IsSpot q pairs from → IsOnChain q pairs from from 0
 chain_starts q pairs from legal some = record {
   legal = legal;
   comes = λ t h. record { term = t; stands = h; same = λ f _. refl };
@@ -55,8 +55,8 @@ chain_starts q pairs from legal some = record {
 -- a variable's term, and that of its value
 value_same :
     (q : Question) (pairs : Pairs) (spot : Spot) (t : Term) (slot : ℕ) (v : Bor (List Cell)) (u : Term)
-    → IsLegal q pairs
-    → StandsAt q pairs spot t
+    → IsSoundQuestion q pairs
+    → SpotStandsFor q pairs spot t
     → slot_at q pairs spot ≡ Some slot
     → value_at pairs slot ≡ Some v
     → StandsFor v.now u
@@ -79,10 +79,10 @@ value_same q pairs spot t slot v u legal stands here bound whole f solved =
 
 value_stands :
     (q : Question) (pairs : Pairs) (slot : ℕ) (v : Bor (List Cell)) (u : Term)
-    → IsLegal q pairs
+    → IsSoundQuestion q pairs
     → value_at pairs slot ≡ Some v
     → StandsFor v.now u
-    → StandsAt q pairs (at_slot slot) u
+    → SpotStandsFor q pairs (at_slot slot) u
 value_stands q pairs slot v u legal bound whole =
     let here = text-bound q pairs slot v (value_holds (IsBinding q.slots) pairs slot v legal.bindings bound).below bound in
     subst (λ l. IsAt l 0 u) (sym here) (whole_at v.now u whole)
@@ -90,7 +90,7 @@ value_stands q pairs slot v u legal bound whole =
 -- the next slot has a smaller rank
 next_below : (slots : Slots) (rank : ℕ → ℕ) (slot next : ℕ) (u : Term) (cells : List Cell) → StandsFor cells u → ComesDown slots rank slot cells → cell_slot slots (get_or cells 0 no_cell) ≡ Some next → rank next < rank slot
 next_below slots rank slot next u [] whole down e = cc
-next_below slots rank slot next u (c ∷ cells) whole down e = subst (IsBelow rank slot) e down
+next_below slots rank slot next u (c ∷ cells) whole down e = subst (ChainComesDown rank slot) e down
 
 pub chain_goes_on :
     (q : Question) (pairs : Pairs) (from spot : Spot) (steps slot : ℕ) (v : Bor (List Cell))
@@ -125,13 +125,13 @@ pub chain_ends :
     → IsOnChain q pairs from spot steps
     → IsUnbound pairs (slot_at q pairs spot)
     → (t : Term)
-    → StandsAt q pairs from t
+    → SpotStandsFor q pairs from t
     → ComesTo q pairs t spot
 chain_ends q pairs from spot steps h ends t stands =
     let r = h.comes t stands in record { term = r.term; stands = r.stands; same = r.same; ends = ends }
 
 -- a value is a subterm
-pub value_subterm : (q : Question) (pairs : Pairs) (slot : ℕ) (v : Bor (List Cell)) → IsLegal q pairs → value_at pairs slot ≡ Some v → IsSubterm q pairs (at_spot (at_slot slot) v)
+pub value_subterm : (q : Question) (pairs : Pairs) (slot : ℕ) (v : Bor (List Cell)) → IsSoundQuestion q pairs → value_at pairs slot ≡ Some v → IsSubterm q pairs (at_spot (at_slot slot) v)
 value_subterm q pairs slot v legal bound =
     let whole = (value_holds (IsBinding q.slots) pairs slot v legal.bindings bound).whole in
     record {

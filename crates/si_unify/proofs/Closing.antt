@@ -12,7 +12,7 @@ use Rattle.si_flat.specs.Cells.{Variable, Term}
 use Rattle.si_unify.specs.declared.spots.SpotPair.{SpotPair}
 use Rattle.si_unify.specs.declared.spots.Question.{Question}
 use Rattle.si_unify.specs.Solving.{Pairs, IsSolvedBy}
-use Rattle.si_unify.specs.Spots.{IsLegal, MakesEqual, MakesEqualUpTo, IsApart, ArePairs, IsGoingOn, Follows, HasCompared, HasClosed}
+use Rattle.si_unify.specs.Spots.{IsSoundQuestion, MakesEqual, MakesEqualUpTo, IsApart, ArePairs, IsGoingOn, Follows, HasCompared, HasClosed}
 use Rattle.si_unify.proofs.Meeting.{goes_nowhere}
 use Rattle.si_unify.proofs.Comparing.{up_to_fewer, equal_before, solved_before, going_further, stood_before}
 
@@ -26,7 +26,7 @@ pub record IsClosing (q : Question) (old pairs : Pairs) (old_keys keys : List Sp
       → AllByRecursion (MakesEqual q old f) old_keys
       → IsSolvedBy q.slots pairs f × AllByRecursion (MakesEqual q pairs f) keys
 
-pub closing_starts : (q : Question) (pairs : Pairs) (keys : List SpotPair) → IsLegal q pairs → ArePairs q pairs keys → IsClosing q pairs pairs keys keys 0
+pub closing_starts : (q : Question) (pairs : Pairs) (keys : List SpotPair) → IsSoundQuestion q pairs → ArePairs q pairs keys → IsClosing q pairs pairs keys keys 0
 closing_starts q pairs keys legal apart = record {
   going = goes_nowhere q pairs keys legal apart;
   within = omega arith;

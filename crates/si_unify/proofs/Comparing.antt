@@ -18,7 +18,7 @@ use Rattle.si_unify.specs.declared.spots.Spot.{Spot}
 use Rattle.si_unify.specs.declared.spots.SpotPair.{SpotPair}
 use Rattle.si_unify.specs.declared.spots.Question.{Question}
 use Rattle.si_unify.specs.Solving.{Pairs, IsSolvedBy}
-use Rattle.si_unify.specs.Spots.{text, StandsAt, IsSpot, IsSubterm, at_spot, IsEnd, ComesTo, IsLegal, MakesEqual, MakesEqualUpTo, IsApart, ArePairs, IsGoingOn, HasMet, HasCompared}
+use Rattle.si_unify.specs.Spots.{text, SpotStandsFor, IsSpot, IsSubterm, at_spot, IsEnd, ComesTo, IsSoundQuestion, MakesEqual, MakesEqualUpTo, IsApart, ArePairs, IsGoingOn, HasMetSpots, HasCompared}
 use Rattle.si_unify.specs.Symbols.{same_symbol}
 use Rattle.si_unify.proofs.Places.{at_unique, first_cell, first_of}
 use Rattle.si_unify.proofs.Binding.{stands_still, stood, solved_front, cut_stands}
@@ -27,15 +27,15 @@ use Rattle.si_unify.proofs.Meeting.{goes_nowhere, have_head}
 use Rattle.si_unify.proofs.Rows.{cells-join, sound-join, count-join, sizes-join, substitute-join, count-substitute, join_injective}
 
 -- ---- meeting at the ends of two chains
-pub end_of : (q : Question) (pairs : Pairs) (from to : Spot) → IsSpot q pairs from → ((t : Term) → StandsAt q pairs from t → ComesTo q pairs t to) → IsEnd q pairs to
+pub end_of : (q : Question) (pairs : Pairs) (from to : Spot) → IsSpot q pairs from → ((t : Term) → SpotStandsFor q pairs from t → ComesTo q pairs t to) → IsEnd q pairs to
 end_of q pairs from to some comes = let h = comes some.0 some.1 in record { spot_is = (h.term, h.stands); ends = h.ends }
 
 pub met_through :
     (q : Question) (old new : Pairs) (old_keys new_keys : List SpotPair) (left right left_end right_end : Spot) (b : Bool)
-    → ((t : Term) → StandsAt q old left t → ComesTo q old t left_end)
-    → ((t : Term) → StandsAt q old right t → ComesTo q old t right_end)
-    → HasMet q old new old_keys new_keys left_end right_end b
-    → HasMet q old new old_keys new_keys left right b
+    → ((t : Term) → SpotStandsFor q old left t → ComesTo q old t left_end)
+    → ((t : Term) → SpotStandsFor q old right t → ComesTo q old t right_end)
+    → HasMetSpots q old new old_keys new_keys left_end right_end b
+    → HasMetSpots q old new old_keys new_keys left right b
 met_through q old new old_keys new_keys left right left_end right_end false left_comes right_comes h =
     λ t u left_stands right_stands f solved e.
     let l = left_comes t left_stands in
@@ -68,8 +68,8 @@ pub record IsComparing (q : Question) (old pairs : Pairs) (old_keys keys : List 
   pub going : IsGoingOn q old pairs old_keys keys
   pub left_term : Term
   pub right_term : Term
-  pub left_stands : StandsAt q old pair.left left_term
-  pub right_stands : StandsAt q old pair.right right_term
+  pub left_stands : SpotStandsFor q old pair.left left_term
+  pub right_stands : SpotStandsFor q old pair.right right_term
   pub left_whole : StandsFor left left_term
   pub right_whole : StandsFor right right_term
   pub left_rest : Terms
@@ -100,7 +100,7 @@ drop_one c cells = refl
 
 pub comparing_starts :
     (q : Question) (pairs : Pairs) (keys : List SpotPair) (pair : SpotPair) (left right : List Cell)
-    → IsLegal q pairs
+    → IsSoundQuestion q pairs
     → ArePairs q pairs keys
     → (apart : IsApart q pairs pair)
     → StandsFor left (terms.app apart.symbol apart.left_arguments)
@@ -150,8 +150,8 @@ comparing_ends q old pairs old_keys keys pair left right i j h over =
           (r.0, r.1),
     )
   where
-    back_to : (before after : Term) (spot : Spot) → StandsAt q old spot before → StandsAt q pairs spot after → StandsAt q old spot after
-    back_to before after spot stands k = stood q old h.going.grows.0 spot before after stands (subst (λ l. StandsAt q l spot after) h.going.grows.1 k)
+    back_to : (before after : Term) (spot : Spot) → SpotStandsFor q old spot before → SpotStandsFor q pairs spot after → SpotStandsFor q old spot after
+    back_to before after spot stands k = stood q old h.going.grows.0 spot before after stands (subst (λ l. SpotStandsFor q l spot after) h.going.grows.1 k)
 
 -- ---- one step
 -- what stands at the two places, and what is left after it
@@ -280,7 +280,7 @@ comparing_descends q old pairs old_keys keys pair left right i j d h less common
 abbrev pub moved : Spot → ℕ → Spot
 moved spot i = record { base = spot.base; at = spot.at + i }
 
-spot_of_next : (q : Question) (pairs : Pairs) (spot : Spot) (cells : List Cell) (whole t : Term) (i : ℕ) (others : Terms) → StandsAt q pairs spot whole → StandsFor cells whole → i ≤ length cells → IsSound t → drop i cells ≡ cells_of t ++ cells_of_all others → StandsAt q pairs (moved spot i) t
+spot_of_next : (q : Question) (pairs : Pairs) (spot : Spot) (cells : List Cell) (whole t : Term) (i : ℕ) (others : Terms) → SpotStandsFor q pairs spot whole → StandsFor cells whole → i ≤ length cells → IsSound t → drop i cells ≡ cells_of t ++ cells_of_all others → SpotStandsFor q pairs (moved spot i) t
 spot_of_next q pairs spot cells whole t i others stands w within sound e = record {
   after = cells_of_all others ++ stands.after;
   from =
@@ -292,14 +292,14 @@ spot_of_next q pairs spot cells whole t i others stands w within sound e = recor
   sound = sound;
 }
 
-stands_now : (q : Question) (old pairs : Pairs) (spot : Spot) (t : Term) → Grows old pairs → StandsAt q old spot t → StandsAt q pairs spot t
-stands_now q old pairs spot t grows stands = subst (λ l. StandsAt q l spot t) (sym grows.1) (stands_still q old grows.0 spot t stands)
+stands_now : (q : Question) (old pairs : Pairs) (spot : Spot) (t : Term) → Grows old pairs → SpotStandsFor q old spot t → SpotStandsFor q pairs spot t
+stands_now q old pairs spot t grows stands = subst (λ l. SpotStandsFor q l spot t) (sym grows.1) (stands_still q old grows.0 spot t stands)
 
 pub left_next :
     (q : Question) (old pairs : Pairs) (old_keys keys : List SpotPair) (pair : SpotPair) (left right : List Cell) (i j : ℕ)
     → (h : IsComparing q old pairs old_keys keys pair left right i j)
     → (n : AreNext h.left_rest h.right_rest)
-    → StandsAt q pairs (moved pair.left i) n.left
+    → SpotStandsFor q pairs (moved pair.left i) n.left
 left_next q old pairs old_keys keys pair left right i j h n =
     let sound : AreSound (terms.more n.left n.left_others) = subst AreSound n.left_is h.left_sound in
     spot_of_next q pairs pair.left left h.left_term n.left i n.left_others
@@ -310,7 +310,7 @@ pub right_next :
     (q : Question) (old pairs : Pairs) (old_keys keys : List SpotPair) (pair : SpotPair) (left right : List Cell) (i j : ℕ)
     → (h : IsComparing q old pairs old_keys keys pair left right i j)
     → (n : AreNext h.left_rest h.right_rest)
-    → StandsAt q pairs (moved pair.right j) n.right
+    → SpotStandsFor q pairs (moved pair.right j) n.right
 right_next q old pairs old_keys keys pair left right i j h n =
     let sound : AreSound (terms.more n.right n.right_others) = subst AreSound n.right_is h.right_sound in
     spot_of_next q pairs pair.right right h.right_term n.right j n.right_others
@@ -345,7 +345,7 @@ pub comparing_goes_on :
     → (less : i < length left)
     → m ≡ terms.size (next_at q old pairs old_keys keys pair left right i j h less).left
     → n ≡ terms.size (next_at q old pairs old_keys keys pair left right i j h less).right
-    → HasMet q pairs new keys new_keys (moved pair.left i) (moved pair.right j) true
+    → HasMetSpots q pairs new keys new_keys (moved pair.left i) (moved pair.right j) true
     → IsComparing q old new old_keys new_keys pair left right (i + m) (j + n)
 comparing_goes_on q old pairs new old_keys keys new_keys pair left right i j m n h less left_span right_span met =
     let x = next_at q old pairs old_keys keys pair left right i j h less in
@@ -401,7 +401,7 @@ pub comparing_fails :
     (q : Question) (old pairs new : Pairs) (old_keys keys new_keys : List SpotPair) (pair : SpotPair) (left right : List Cell) (i j : ℕ)
     → IsComparing q old pairs old_keys keys pair left right i j
     → i < length left
-    → HasMet q pairs new keys new_keys (moved pair.left i) (moved pair.right j) false
+    → HasMetSpots q pairs new keys new_keys (moved pair.left i) (moved pair.right j) false
     → HasCompared q old new old_keys new_keys pair false
 comparing_fails q old pairs new old_keys keys new_keys pair left right i j h less met f solved equal here =
     let x = next_at q old pairs old_keys keys pair left right i j h less in
@@ -495,15 +495,15 @@ right_size q old pairs old_keys keys pair left right i j piece h less place whol
     ap length (right_cut q old pairs old_keys keys pair left right i j piece h less place whole).cells_are
     ∙ length-cells_of (next_at q old pairs old_keys keys pair left right i j h less).right
 
-pub stood_before : (q : Question) (old pairs : Pairs) (spot : Spot) (before after : Term) → Grows old pairs → StandsAt q old spot before → StandsAt q pairs spot after → StandsAt q old spot after
-stood_before q old pairs spot before after grows stands k = stood q old grows.0 spot before after stands (subst (λ l. StandsAt q l spot after) grows.1 k)
+pub stood_before : (q : Question) (old pairs : Pairs) (spot : Spot) (before after : Term) → Grows old pairs → SpotStandsFor q old spot before → SpotStandsFor q pairs spot after → SpotStandsFor q old spot after
+stood_before q old pairs spot before after grows stands k = stood q old grows.0 spot before after stands (subst (λ l. SpotStandsFor q l spot after) grows.1 k)
 
 -- ---- two terms whose arguments have been compared have met
 pub up_to_fewer : (q : Question) (pairs : Pairs) (keys : List SpotPair) (f : Variable → Term) (m n : ℕ) → m ≤ n → AllByRecursion (MakesEqualUpTo q pairs f n) keys → AllByRecursion (MakesEqualUpTo q pairs f m) keys
 up_to_fewer q pairs keys f m n less h =
     all_weaker (MakesEqualUpTo q pairs f n) (MakesEqualUpTo q pairs f m) keys (λ k e t u left right few. e t u left right (omega (arith, few, less))) h
 
-makes_equal : (q : Question) (pairs : Pairs) (f : Variable → Term) (pair : SpotPair) (t u : Term) → StandsAt q pairs pair.left t → StandsAt q pairs pair.right u → terms.substitute f t ≡ terms.substitute f u → MakesEqual q pairs f pair
+makes_equal : (q : Question) (pairs : Pairs) (f : Variable → Term) (pair : SpotPair) (t u : Term) → SpotStandsFor q pairs pair.left t → SpotStandsFor q pairs pair.right u → terms.substitute f t ≡ terms.substitute f u → MakesEqual q pairs f pair
 makes_equal q pairs f pair t u left right e t' u' left' right' =
     ap (terms.substitute f) (at_unique _ _ t' t left' left) ∙ e ∙ ap (terms.substitute f) (at_unique _ _ u u' right right')
 
@@ -511,7 +511,7 @@ pub compared_met :
     (q : Question) (old new : Pairs) (old_keys new_keys : List SpotPair) (pair : SpotPair) (b : Bool)
     → old_keys ≡ []
     → HasCompared q old new old_keys new_keys pair b
-    → HasMet q old new old_keys new_keys pair.left pair.right b
+    → HasMetSpots q old new old_keys new_keys pair.left pair.right b
 compared_met q old new old_keys new_keys pair true none h = (
   h.0,
   λ t u left right. record {

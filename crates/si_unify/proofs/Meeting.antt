@@ -17,17 +17,17 @@ use Rattle.si_unify.specs.declared.spots.SpotPair.{SpotPair}
 use Rattle.si_unify.specs.declared.spots.Question.{Question}
 use Rattle.si_unify.proofs.Pieces.{handed_still, handed_piece, text_handed_in}
 use Rattle.si_unify.specs.Solving.{IsPieceOf, Pairs, slot_count, slot_of, variable_of, is_frozen, CellIsInRange, AreInRange}
-use Rattle.si_unify.specs.Spots.{text, StandsAt, IsSpot, IsEnd, cell_at, slot_at, cell_slot, free_slot, same_slot, IsLegal, MakesEqual, MakesEqualUpTo, IsApart, ArePairs, Meets, Refutes, IsGoingOn, IsUnbound, Binds, HasMet}
+use Rattle.si_unify.specs.Spots.{text, SpotStandsFor, IsSpot, IsEnd, cell_at, slot_at, cell_slot, free_slot, same_slot, IsSoundQuestion, MakesEqual, MakesEqualUpTo, IsApart, ArePairs, Meets, Refutes, IsGoingOn, IsUnbound, Binds, HasMetSpots}
 use Rattle.si_unify.specs.Symbols.{same_symbol}
 use Rattle.si_unify.proofs.Places.{at_unique, first_cell, cell-at, inside, in_range-at, in_range-variable, variable_of-slot_of, text_in_range, slot_variable}
 use Rattle.si_unify.proofs.Chains.{no_cell}
 use Rattle.si_unify.proofs.Binding.{IsNot, CanBind, slot_below, binding_meets, binding_meets_right, binding_goes_on}
 
 -- ---- what the cell at a spot tells
-pub first_at : (q : Question) (pairs : Pairs) (spot : Spot) (t : Term) → StandsAt q pairs spot t → cell_at q pairs spot ≡ first_cell t
+pub first_at : (q : Question) (pairs : Pairs) (spot : Spot) (t : Term) → SpotStandsFor q pairs spot t → cell_at q pairs spot ≡ first_cell t
 first_at q pairs spot t stands = cell-at _ _ t no_cell stands
 
-pub range_at : (q : Question) (pairs : Pairs) (spot : Spot) (t : Term) → IsLegal q pairs → StandsAt q pairs spot t → CellIsInRange q.slots (first_cell t)
+pub range_at : (q : Question) (pairs : Pairs) (spot : Spot) (t : Term) → IsSoundQuestion q pairs → SpotStandsFor q pairs spot t → CellIsInRange q.slots (first_cell t)
 range_at q pairs spot t legal stands =
     subst (CellIsInRange q.slots) (first_at q pairs spot t stands) (in_range-at q.slots _ _ no_cell (text_in_range q pairs spot.base legal) (inside _ _ t stands))
 
@@ -69,7 +69,7 @@ frozen_variable slots (entry n) e = go slots.freeze_entry refl e
     go false is e = cc
 
 -- ---- nothing changes
-pub goes_nowhere : (q : Question) (pairs : Pairs) (keys : List SpotPair) → IsLegal q pairs → ArePairs q pairs keys → IsGoingOn q pairs pairs keys keys
+pub goes_nowhere : (q : Question) (pairs : Pairs) (keys : List SpotPair) → IsSoundQuestion q pairs → ArePairs q pairs keys → IsGoingOn q pairs pairs keys keys
 goes_nowhere q pairs keys legal apart = record {
   grows = ([], sym (append-nil pairs));
   keys_grow = ([], sym (append-nil keys));
@@ -94,7 +94,7 @@ some_slot (Some m) (Some n) e =
       | inr h ↦ let bad : true ≡ false = sym e ∙ h.0 in cc
     ]
 
-pub same_variable_met : (q : Question) (pairs : Pairs) (keys : List SpotPair) (left right : Spot) → IsLegal q pairs → ArePairs q pairs keys → same_slot (slot_at q pairs left) (slot_at q pairs right) ≡ true → HasMet q pairs pairs keys keys left right true
+pub same_variable_met : (q : Question) (pairs : Pairs) (keys : List SpotPair) (left right : Spot) → IsSoundQuestion q pairs → ArePairs q pairs keys → same_slot (slot_at q pairs left) (slot_at q pairs right) ≡ true → HasMetSpots q pairs pairs keys keys left right true
 same_variable_met q pairs keys left right legal apart e =
     let s = some_slot (slot_at q pairs left) (slot_at q pairs right) e in (
       goes_nowhere q pairs keys legal apart,
@@ -128,7 +128,7 @@ slot_of-cell slots (entry n) = refl
 slot_of-cell slots (ind n) = refl
 
 pub record MeetsEnds (q : Question) (pairs : Pairs) (keys : List SpotPair) (left right : Spot) : Type 0 where
-  pub legal : IsLegal q pairs
+  pub legal : IsSoundQuestion q pairs
   pub apart : ArePairs q pairs keys
   pub left_end : IsEnd q pairs left
   pub right_end : IsEnd q pairs right
@@ -137,8 +137,8 @@ pub record MeetsEnds (q : Question) (pairs : Pairs) (keys : List SpotPair) (left
 can_bind :
     (q : Question) (pairs : Pairs) (keys : List SpotPair) (left right : Spot) (t u : Term) (slot : ℕ) (v : Bor (List Cell))
     → MeetsEnds q pairs keys left right
-    → StandsAt q pairs left t
-    → StandsAt q pairs right u
+    → SpotStandsFor q pairs left t
+    → SpotStandsFor q pairs right u
     → (free : IsFree q.slots t slot)
     → StandsFor v.now u
     → AreInRange q.slots v.now
@@ -161,15 +161,15 @@ can_bind q pairs keys left right t u slot v h left_stands right_stands free whol
       differs = not_same _ slot (subst (λ o. same_slot (Some slot) o ≡ false) right_is (subst (λ o. same_slot o (slot_at q pairs right) ≡ false) left_is h.differ));
     }
 
-free_at : (q : Question) (pairs : Pairs) (spot : Spot) (t : Term) (slot : ℕ) → StandsAt q pairs spot t → free_slot q.slots (cell_at q pairs spot) ≡ Some slot → IsFree q.slots t slot
+free_at : (q : Question) (pairs : Pairs) (spot : Spot) (t : Term) (slot : ℕ) → SpotStandsFor q pairs spot t → free_slot q.slots (cell_at q pairs spot) ≡ Some slot → IsFree q.slots t slot
 free_at q pairs spot t slot stands e = free_variable q.slots t slot (ap (free_slot q.slots) (sym (first_at q pairs spot t stands)) ∙ e)
 
-pub left_bound : (q : Question) (pairs new : Pairs) (keys : List SpotPair) (left right : Spot) (slot : ℕ) → MeetsEnds q pairs keys left right → free_slot q.slots (cell_at q pairs left) ≡ Some slot → Binds q pairs new slot right → HasMet q pairs new keys keys left right true
+pub left_bound : (q : Question) (pairs new : Pairs) (keys : List SpotPair) (left right : Spot) (slot : ℕ) → MeetsEnds q pairs keys left right → free_slot q.slots (cell_at q pairs left) ≡ Some slot → Binds q pairs new slot right → HasMetSpots q pairs new keys keys left right true
 left_bound q pairs new keys left right slot h free binds =
     let some = h.left_end.spot_is in
     let other = h.right_end.spot_is in
     let x = free_at q pairs left some.0 slot some.1 free in
-    subst (λ l. HasMet q pairs l keys keys left right true) (sym binds.pairs) (
+    subst (λ l. HasMetSpots q pairs l keys keys left right true) (sym binds.pairs) (
       binding_goes_on q pairs keys x.variable other.0 slot binds.value
           (can_bind q pairs keys left right some.0 other.0 slot binds.value h some.1 other.1 x (binds.whole other.0 other.1) binds.in_range binds.piece),
       λ t u left_stands right_stands.
@@ -188,13 +188,13 @@ turned q pairs keys left right h = record {
   differ = same_slot_comm (slot_at q pairs right) (slot_at q pairs left) ∙ h.differ;
 }
 
-pub right_bound : (q : Question) (pairs new : Pairs) (keys : List SpotPair) (left right : Spot) (slot : ℕ) → MeetsEnds q pairs keys left right → free_slot q.slots (cell_at q pairs right) ≡ Some slot → Binds q pairs new slot left → HasMet q pairs new keys keys left right true
+pub right_bound : (q : Question) (pairs new : Pairs) (keys : List SpotPair) (left right : Spot) (slot : ℕ) → MeetsEnds q pairs keys left right → free_slot q.slots (cell_at q pairs right) ≡ Some slot → Binds q pairs new slot left → HasMetSpots q pairs new keys keys left right true
 right_bound q pairs new keys left right slot h free binds =
     let k = turned q pairs keys left right h in
     let some = h.right_end.spot_is in
     let other = h.left_end.spot_is in
     let x = free_at q pairs right some.0 slot some.1 free in
-    subst (λ l. HasMet q pairs l keys keys left right true) (sym binds.pairs) (
+    subst (λ l. HasMetSpots q pairs l keys keys left right true) (sym binds.pairs) (
       binding_goes_on q pairs keys x.variable other.0 slot binds.value
           (can_bind q pairs keys right left some.0 other.0 slot binds.value k some.1 other.1 x (binds.whole other.0 other.1) binds.in_range binds.piece),
       λ t u left_stands right_stands.
@@ -204,7 +204,7 @@ right_bound q pairs new keys left right slot h free binds =
           (can_bind q pairs keys right left u t slot binds.value k right_stands left_stands y (binds.whole t left_stands) binds.in_range binds.piece)),
     )
 
-pub free_below : (q : Question) (pairs : Pairs) (spot : Spot) (slot : ℕ) → IsLegal q pairs → IsSpot q pairs spot → free_slot q.slots (cell_at q pairs spot) ≡ Some slot → slot < slot_count q.slots
+pub free_below : (q : Question) (pairs : Pairs) (spot : Spot) (slot : ℕ) → IsSoundQuestion q pairs → IsSpot q pairs spot → free_slot q.slots (cell_at q pairs spot) ≡ Some slot → slot < slot_count q.slots
 free_below q pairs spot slot legal some free =
     let x = free_at q pairs spot some.0 slot some.1 free in
     subst (λ k. k < slot_count q.slots) x.slot_is
@@ -218,7 +218,7 @@ free_unbound q pairs spot slot h free =
     h.ends
 
 -- ---- neither side is free
-frozen_at : (q : Question) (pairs : Pairs) (spot : Spot) (x : Variable) → StandsAt q pairs spot (terms.var x) → free_slot q.slots (cell_at q pairs spot) ≡ None → is_frozen q.slots x ≡ true
+frozen_at : (q : Question) (pairs : Pairs) (spot : Spot) (x : Variable) → SpotStandsFor q pairs spot (terms.var x) → free_slot q.slots (cell_at q pairs spot) ≡ None → is_frozen q.slots x ≡ true
 frozen_at q pairs spot x stands e = frozen_variable q.slots x (ap (free_slot q.slots) (sym (first_at q pairs spot (terms.var x) stands)) ∙ e)
 
 same_number : (m n : ℕ) → m ≡ n → (m == n) ≡ true
@@ -266,7 +266,7 @@ have_head (terms.app s ts) (terms.app r us) e =
       | inr h ↦ let bad : false ≡ true = rw h.0 at e in cc
     ]
 
-clash : (q : Question) (pairs : Pairs) (left right : Spot) (t u : Term) → same_slot (slot_at q pairs left) (slot_at q pairs right) ≡ false → StandsAt q pairs left t → StandsAt q pairs right u → free_slot q.slots (cell_at q pairs left) ≡ None → free_slot q.slots (cell_at q pairs right) ≡ None → same_symbol (first_cell t) (first_cell u) ≡ false → Refutes q pairs t u
+clash : (q : Question) (pairs : Pairs) (left right : Spot) (t u : Term) → same_slot (slot_at q pairs left) (slot_at q pairs right) ≡ false → SpotStandsFor q pairs left t → SpotStandsFor q pairs right u → free_slot q.slots (cell_at q pairs left) ≡ None → free_slot q.slots (cell_at q pairs right) ≡ None → same_symbol (first_cell t) (first_cell u) ≡ false → Refutes q pairs t u
 clash q pairs left right (terms.var x) (terms.var y) differ left_stands right_stands left_fixed right_fixed none f solved e =
     let fx = solved.frozen x (frozen_at q pairs left x left_stands left_fixed) in
     let fy = solved.frozen y (frozen_at q pairs right y right_stands right_fixed) in
@@ -296,12 +296,12 @@ pub clash_met :
     → free_slot q.slots (cell_at q pairs left) ≡ None
     → free_slot q.slots (cell_at q pairs right) ≡ None
     → same_symbol (cell_at q pairs left) (cell_at q pairs right) ≡ false
-    → HasMet q pairs new keys new_keys left right false
+    → HasMetSpots q pairs new keys new_keys left right false
 clash_met q pairs new keys new_keys left right h left_fixed right_fixed none t u left_stands right_stands =
     clash q pairs left right t u h.differ left_stands right_stands left_fixed right_fixed
     (rw (first_at q pairs left t left_stands, first_at q pairs right u right_stands) at none)
 
-head_at : (q : Question) (pairs : Pairs) (left right : Spot) (t u : Term) → StandsAt q pairs left t → StandsAt q pairs right u → same_symbol (cell_at q pairs left) (cell_at q pairs right) ≡ true → HaveHead t u
+head_at : (q : Question) (pairs : Pairs) (left right : Spot) (t u : Term) → SpotStandsFor q pairs left t → SpotStandsFor q pairs right u → same_symbol (cell_at q pairs left) (cell_at q pairs right) ≡ true → HaveHead t u
 head_at q pairs left right t u left_stands right_stands e =
     have_head t u (rw (first_at q pairs left t left_stands, first_at q pairs right u right_stands) at e)
 
@@ -311,7 +311,7 @@ pub constant_met :
     → MeetsEnds q pairs keys left right
     → same_symbol (cell_at q pairs left) (cell_at q pairs right) ≡ true
     → cell_at q pairs left ≡ cell.App number 0 len
-    → HasMet q pairs pairs keys keys left right true
+    → HasMetSpots q pairs pairs keys keys left right true
 constant_met q pairs keys left right number len h e constant = (
   goes_nowhere q pairs keys h.legal h.apart,
   λ t u left_stands right_stands.
@@ -339,8 +339,8 @@ apart_at q pairs left right t u e =
       symbol = head.symbol;
       left_arguments = head.left_arguments;
       right_arguments = head.right_arguments;
-      left = subst (StandsAt q pairs left) head.left t.1;
-      right = subst (StandsAt q pairs right) head.right u.1;
+      left = subst (SpotStandsFor q pairs left) head.left t.1;
+      right = subst (SpotStandsFor q pairs right) head.right u.1;
     }
 
 -- a pair that is to be compared
@@ -350,7 +350,7 @@ pub pair_met :
     → same_symbol (cell_at q pairs left) (cell_at q pairs right) ≡ true
     → (new_keys ≡ keys) ⊎ (new_keys ≡ keys ++ record { left = left; right = right } ∷ [])
     → slice_get new_keys i ≡ Some (record { left = left; right = right })
-    → HasMet q pairs pairs keys new_keys left right true
+    → HasMetSpots q pairs pairs keys new_keys left right true
 pair_met q pairs keys new_keys left right i h e grown stored =
     let pair : SpotPair = record { left = left; right = right } in
     let here : IsApart q pairs pair = apart_at q pairs left right h.left_end.spot_is h.right_end.spot_is e in (

@@ -15,7 +15,7 @@ use Rattle.si_unify.specs.declared.spots.Spot.{Spot}
 use Rattle.si_unify.specs.declared.spots.SpotPair.{SpotPair}
 use Rattle.si_unify.specs.declared.spots.Question.{Question}
 use Rattle.si_unify.specs.Solving.{Pairs, slot_count, IsBinding}
-use Rattle.si_unify.specs.Spots.{cells_now, text, same_spots, IsSpot, IsApart, IsLegal, IsAdded, HasNoRoomFor, ArePairs}
+use Rattle.si_unify.specs.Spots.{cells_now, text, same_spots, IsSpot, IsApart, IsSoundQuestion, IsAdded, HasNoRoomFor, ArePairs}
 use Rattle.si_unify.specs.Rooms.{AreNoLongerThan, most_spots}
 use Rattle.si_unify.proofs.Places.{value_holds, inside}
 use Rattle.si_unify.proofs.Meeting.{same_pair}
@@ -145,7 +145,7 @@ module _ (count n : ℕ) where
       omega (arith, as_many (p ∷ ks) (p_in, all) (none_same p ks absent, distinct))
 
 -- ---- the spots of a question
-module _ (q : Question) (pairs : Pairs) (n : ℕ) (legal : IsLegal q pairs) (values : AreNoLongerThan n pairs) (left : length q.left.now ≤ n) (right : length q.right.now ≤ n) where
+module _ (q : Question) (pairs : Pairs) (n : ℕ) (legal : IsSoundQuestion q pairs) (values : AreNoLongerThan n pairs) (left : length q.left.now ≤ n) (right : length q.right.now ≤ n) where
   text_within : (base at : ℕ) → at < length (text q pairs base) → (base < slot_count q.slots + 2) × (at < n)
   text_within base at less =
       elim (eqb_tells base (slot_count q.slots)) [

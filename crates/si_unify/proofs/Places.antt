@@ -15,7 +15,7 @@ use Rattle.si_unify.specs.declared.slots.Slots.{Slots}
 use Rattle.si_unify.specs.declared.spots.Question.{Question}
 use Rattle.si_unify.specs.declared.spots.Spot.{Spot}
 use Rattle.si_unify.specs.Solving.{Pairs, slot_count, slot_of, variable_of, IsInRange, CellIsInRange, AreInRange, IsBinding}
-use Rattle.si_unify.specs.Spots.{cells_now, text, IsAt, IsSpot, cell_slot, IsLegal}
+use Rattle.si_unify.specs.Spots.{cells_now, text, IsAt, IsSpot, cell_slot, IsSoundQuestion}
 use Rattle.si_unify.proofs.Reading.{same_term}
 
 -- ---- lists of bindings
@@ -95,7 +95,7 @@ base_bound q pairs spot h left right none =
     apart : (m n : ℕ) → m ≢ n → (m == n) ≡ false
     apart m n differ = elim (eqb_tells m n) [ inl h ↦ absurd (differ h.1) | inr h ↦ h.0 ]
 
-pub text_in_range : (q : Question) (pairs : Pairs) (base : ℕ) → IsLegal q pairs → AreInRange q.slots (text q pairs base)
+pub text_in_range : (q : Question) (pairs : Pairs) (base : ℕ) → IsSoundQuestion q pairs → AreInRange q.slots (text q pairs base)
 text_in_range q pairs base legal =
     elim (base == slot_count q.slots) as (λ b. AreInRange q.slots (cond b q.left.now (cond (base == slot_count q.slots + 1) q.right.now (cells_now (value_at pairs base))))) [
       | true ↦ legal.left_in_range
@@ -106,7 +106,7 @@ text_in_range q pairs base legal =
           ]
     ]
   where
-    value_in_range : (q : Question) (pairs : Pairs) (base : ℕ) → IsLegal q pairs → (o : Option (Bor (List Cell))) → value_at pairs base ≡ o → AreInRange q.slots (cells_now o)
+    value_in_range : (q : Question) (pairs : Pairs) (base : ℕ) → IsSoundQuestion q pairs → (o : Option (Bor (List Cell))) → value_at pairs base ≡ o → AreInRange q.slots (cells_now o)
     value_in_range q pairs base legal None e = tt
     value_in_range q pairs base legal (Some v) e = (value_holds (IsBinding q.slots) pairs base v legal.bindings e).in_range
 

@@ -12,7 +12,7 @@ use Rattle.si_flat.specs.declared.Cell.TheVariants as cell
 use Rattle.si_trail.specs.Trails.{value_at}
 use Rattle.si_unify.specs.declared.slots.Slots.{Slots}
 use Rattle.si_unify.specs.Solving.{Pairs, IsAcyclic, RanksBelow}
-use Rattle.si_unify.specs.Spots.{cell_slot, IsBelow, ComesDown, IsChained}
+use Rattle.si_unify.specs.Spots.{cell_slot, ChainComesDown, ComesDown, IsChained}
 
 -- how many pairs have a slot of at most this rank
 
@@ -69,11 +69,11 @@ all_bound (pair ∷ pairs) = (
   all_weaker (IsBound pairs) (IsBound (pair ∷ pairs)) pairs (λ p h. bound_behind pair p pairs h) (all_bound pairs),
 )
 
-below_at_most : (slots : Slots) (rank : ℕ → ℕ) (pairs : Pairs) (slot : ℕ) (o : Option ℕ) (v : Bor (List Cell)) → value_at pairs slot ≡ Some v → IsBelow rank slot o → IsBelow (λ z. at_most rank (rank z) pairs) slot o
+below_at_most : (slots : Slots) (rank : ℕ → ℕ) (pairs : Pairs) (slot : ℕ) (o : Option ℕ) (v : Bor (List Cell)) → value_at pairs slot ≡ Some v → ChainComesDown rank slot o → ChainComesDown (λ z. at_most rank (rank z) pairs) slot o
 below_at_most slots rank pairs slot None v e h = tt
 below_at_most slots rank pairs slot (Some next) v e h = at_most_less rank (rank next) pairs slot v e h
 
-below_of_ranks : (slots : Slots) (rank : ℕ → ℕ) (slot : ℕ) (c : Cell) → RanksBelow slots rank slot c → IsBelow rank slot (cell_slot slots c)
+below_of_ranks : (slots : Slots) (rank : ℕ → ℕ) (slot : ℕ) (c : Cell) → RanksBelow slots rank slot c → ChainComesDown rank slot (cell_slot slots c)
 below_of_ranks slots rank slot (cell.App s a n) h = tt
 below_of_ranks slots rank slot (cell.Query n) h = h
 below_of_ranks slots rank slot (cell.Entry n) h = h

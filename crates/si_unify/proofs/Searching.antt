@@ -21,8 +21,8 @@ use Rattle.si_unify.specs.declared.circles.Visit.{Visit}
 use Rattle.si_unify.specs.declared.circles.Visit.TheVariants.{Enter, Leave}
 use Rattle.si_unify.specs.Solving.{Pairs, slot_count, IsTriangularBy, RanksBelow, IsBinding}
 use Rattle.si_unify.specs.Spots.{cell_slot, IsUnbound, CellIsUnbound}
-use Rattle.si_unify.specs.Circles.{if_value, if_bound, with_slot, bound_slots, HasStepped, HasDone, enter_each, pile, visits_of, AreEntered, below_value, slots_below, visit_slot, visit_slots, IsDone, AreCovered, RanksUnder, ComeDown, AreRanked, leave_slots, IsSearching, StayDone, HasSearched}
-use Rattle.si_unify.specs.States.{weight}
+use Rattle.si_unify.specs.Circles.{if_value, if_bound, with_slot, bound_slots, HasMadeVisit, HasDone, enter_each, pile, visits_of, AreEntered, below_value, slots_below, visit_slot, visit_slots, IsDone, AreCovered, RanksUnder, ComeDown, AreRanked, leave_slots, IsSearching, StayDone, HasSearchedCircle}
+use Rattle.si_unify.specs.States.{state_weight}
 use Rattle.si_unify.proofs.Places.{value_holds}
 
 -- ---- states of slots
@@ -198,7 +198,7 @@ under_itself rank slot (Leave other ∷ visits) among under =
       | inr a ↦ under_itself rank slot visits a under.1
     ]
 
-pub circle_found : (slots : Slots) (pairs : Pairs) (states new : List State) (slot : ℕ) (visits first : List Visit) → IsSearching slots pairs states (Enter slot ∷ visits) → slice_get states slot ≡ Some Open → HasSearched slots pairs states new first false
+pub circle_found : (slots : Slots) (pairs : Pairs) (states new : List State) (slot : ℕ) (visits first : List Visit) → IsSearching slots pairs states (Enter slot ∷ visits) → slice_get states slot ≡ Some Open → HasSearchedCircle slots pairs states new first false
 circle_found slots pairs states new slot visits first h is_open rank t = under_itself rank slot visits (h.opened slot is_open) (h.come_down rank t).0
 
 -- the bound variables of a value have smaller ranks
@@ -385,8 +385,8 @@ open_step slots pairs states slot visits h is_new =
     }
 
 -- ---- the outcome of a step
-weight_less : (states : List State) (slot : ℕ) (s : State) → slot < length states → weight s ≤ weight (get_or states slot s) → sum_by weight (set states slot s) ≤ sum_by weight states
-weight_less states slot s less h = let e = sum_by-set weight states slot s s less in omega (arith, e, h)
+weight_less : (states : List State) (slot : ℕ) (s : State) → slot < length states → state_weight s ≤ state_weight (get_or states slot s) → sum_by state_weight (set states slot s) ≤ sum_by state_weight states
+weight_less states slot s less h = let e = sum_by-set state_weight states slot s s less in omega (arith, e, h)
 
 pub left_done : (slots : Slots) (pairs : Pairs) (states : List State) (slot : ℕ) (visits : List Visit) → IsSearching slots pairs states (Leave slot ∷ visits) → HasDone slots pairs states (set states slot Done) (Leave slot ∷ visits) visits true
 left_done slots pairs states slot visits h =
@@ -420,9 +420,9 @@ pub open_done :
 open_done slots pairs states slot visits new_visits h is_new e few =
     let less : slot < length states = slice_get_within states slot New is_new in
     let was : get_or states slot Open ≡ New = get_or_from_slice_get states slot New Open is_new in
-    let one_less = sum_by-set weight states slot Open Open less in
-    let weighs : weight (get_or states slot Open) ≡ 1 = ap weight was in
-    let fewer : sum_by weight (set states slot Open) + 1 ≡ sum_by weight states = omega (arith, one_less, weighs) in
+    let one_less = sum_by-set state_weight states slot Open Open less in
+    let weighs : state_weight (get_or states slot Open) ≡ 1 = ap state_weight was in
+    let fewer : sum_by state_weight (set states slot Open) + 1 ≡ sum_by state_weight states = omega (arith, one_less, weighs) in
     record {
       searching = subst (IsSearching slots pairs (set states slot Open)) (sym e) (open_step slots pairs states slot visits h is_new);
       stay = done_stays_at_open states slot is_new;
@@ -439,14 +439,14 @@ pub record IsSearchUnderway (slots : Slots) (pairs : Pairs) (old states : List S
 pub search_starts : (slots : Slots) (pairs : Pairs) (states : List State) (visits : List Visit) → IsSearching slots pairs states visits → IsSearchUnderway slots pairs states states visits visits
 search_starts slots pairs states visits h = record { searching = h; stay = λ z d. d; kept = λ z a. inr a }
 
-pub search_goes_on : (slots : Slots) (pairs : Pairs) (old states new : List State) (old_visits visits new_visits : List Visit) → IsSearchUnderway slots pairs old states old_visits visits → HasStepped slots pairs states new visits new_visits → IsSearchUnderway slots pairs old new old_visits new_visits
+pub search_goes_on : (slots : Slots) (pairs : Pairs) (old states new : List State) (old_visits visits new_visits : List Visit) → IsSearchUnderway slots pairs old states old_visits visits → HasMadeVisit slots pairs states new visits new_visits → IsSearchUnderway slots pairs old new old_visits new_visits
 search_goes_on slots pairs old states new old_visits visits new_visits h s = record {
   searching = s.searching;
   stay = λ z d. s.stay z (h.stay z d);
   kept = λ z a. elim (h.kept z a) [ inl d ↦ inl (s.stay z d) | inr k ↦ s.kept z k ];
 }
 
-pub search_ends : (slots : Slots) (pairs : Pairs) (old states : List State) (old_visits : List Visit) → IsSearchUnderway slots pairs old states old_visits [] → HasSearched slots pairs old states old_visits true
+pub search_ends : (slots : Slots) (pairs : Pairs) (old states : List State) (old_visits : List Visit) → IsSearchUnderway slots pairs old states old_visits [] → HasSearchedCircle slots pairs old states old_visits true
 search_ends slots pairs old states old_visits h = (h.searching, h.stay, λ z a. elim (h.kept z a) [ inl d ↦ d | inr n ↦ elim n [ ] ])
 
 -- ---- the same, where the visit is told by an equation

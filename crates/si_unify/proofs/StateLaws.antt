@@ -11,7 +11,7 @@ use Rattle.si_defs.specs.Substitutions.{IsAmong}
 use Rattle.si_defs.proofs.ListLaws.{all_weaker, all_take, all_append, all_front, all_back, among_front, among_either, set_same, set_other, among_back}
 use Rattle.si_unify.specs.declared.states.State.{State}
 use Rattle.si_unify.specs.declared.states.State.TheVariants.{New, Open, Done}
-use Rattle.si_unify.specs.States.{weight, AreMet, AreNew, HasRoomFor}
+use Rattle.si_unify.specs.States.{state_weight, AreMet, AreNew, HasRoomForSlots}
 
 pub new_at : (states : List State) (slot : ℕ) (s : State) → AreNew states → slice_get states slot ≡ Some s → s ≡ New
 new_at [] slot s h e = cc
@@ -120,52 +120,52 @@ other_changed states now met now_met slot s d e f h less differs told =
     subst (λ l. AreMet (set l slot s) now_met) (sym e) (subst (AreMet (set states slot s)) (sym f) (met_changed states met slot s h less among))
 
 -- ---- the room for slots that are met
-weighs_little : (s : State) → weight s ≤ 1
+weighs_little : (s : State) → state_weight s ≤ 1
 weighs_little New = omega arith
 weighs_little Open = omega arith
 weighs_little Done = omega arith
 
-weighs_nothing : (s : State) → s ≢ New → weight s ≡ 0
+weighs_nothing : (s : State) → s ≢ New → state_weight s ≡ 0
 weighs_nothing New differs = absurd (differs refl)
 weighs_nothing Open differs = refl
 weighs_nothing Done differs = refl
 
-few_new : (states : List State) → sum_by weight states ≤ length states
+few_new : (states : List State) → sum_by state_weight states ≤ length states
 few_new [] = omega arith
-few_new (s ∷ states) = omega (arith, weighs_little s, sum_by-cons weight s states, few_new states)
+few_new (s ∷ states) = omega (arith, weighs_little s, sum_by-cons state_weight s states, few_new states)
 
-all_weigh : (states : List State) → AreNew states → sum_by weight states ≡ length states
+all_weigh : (states : List State) → AreNew states → sum_by state_weight states ≡ length states
 all_weigh [] h = refl
-all_weigh (s ∷ states) h = omega (arith, ap weight h.0, sum_by-cons weight s states, all_weigh states h.1)
+all_weigh (s ∷ states) h = omega (arith, ap state_weight h.0, sum_by-cons state_weight s states, all_weigh states h.1)
 
 -- where all are new, none has been met
-pub none_noted : (states : List State) (met : List ℕ) (capacity : ℕ) → AreNew states → HasRoomFor states met capacity → length met ≡ 0
+pub none_noted : (states : List State) (met : List ℕ) (capacity : ℕ) → AreNew states → HasRoomForSlots states met capacity → length met ≡ 0
 none_noted states met capacity new h = omega (arith, all_weigh states new, h.few)
 
-pub room_at_first : (states : List State) (met : List ℕ) (capacity : ℕ) → length met ≡ 0 → length states ≤ capacity → HasRoomFor states met capacity
+pub room_at_first : (states : List State) (met : List ℕ) (capacity : ℕ) → length met ≡ 0 → length states ≤ capacity → HasRoomForSlots states met capacity
 room_at_first states met capacity none fits = record { few = omega (arith, none, few_new states); fits = fits }
 
 -- a new slot finds room
-pub room_for_one : (states : List State) (met : List ℕ) (capacity slot : ℕ) (d : State) → HasRoomFor states met capacity → slot < length states → d ≡ New → d ≡ get_or states slot d → length met < capacity
+pub room_for_one : (states : List State) (met : List ℕ) (capacity slot : ℕ) (d : State) → HasRoomForSlots states met capacity → slot < length states → d ≡ New → d ≡ get_or states slot d → length met < capacity
 room_for_one states met capacity slot d h less is_new told =
-    omega (arith, h.few, h.fits, get_or-le-sum_by weight states slot d less, ap weight is_new, ap weight told)
+    omega (arith, h.few, h.fits, get_or-le-sum_by state_weight states slot d less, ap state_weight is_new, ap state_weight told)
 
 pub room_after_one :
     (states now : List State) (met now_met : List ℕ) (capacity slot : ℕ) (s d : State)
     → now ≡ states
     → now_met ≡ met ++ slot ∷ []
-    → HasRoomFor states met capacity
+    → HasRoomForSlots states met capacity
     → slot < length states
     → d ≡ New
     → d ≡ get_or states slot d
     → s ≢ New
-    → HasRoomFor (set now slot s) now_met capacity
+    → HasRoomForSlots (set now slot s) now_met capacity
 room_after_one states now met now_met capacity slot s d e f h less is_new told differs =
-    subst (λ l. HasRoomFor (set l slot s) now_met capacity) (sym e)
+    subst (λ l. HasRoomForSlots (set l slot s) now_met capacity) (sym e)
     (
     record {
       few =
-          omega (arith, h.few, sum_by-set weight states slot s d less, ap weight is_new, ap weight told, weighs_nothing s differs, length-set states slot s, ap length f, length-append met (slot ∷ []));
+          omega (arith, h.few, sum_by-set state_weight states slot s d less, ap state_weight is_new, ap state_weight told, weighs_nothing s differs, length-set states slot s, ap length f, length-append met (slot ∷ []));
       fits = omega (arith, h.fits, length-set states slot s);
     }
     )
@@ -174,22 +174,22 @@ pub room_as_before :
     (states now : List State) (met now_met : List ℕ) (capacity slot : ℕ) (s : State)
     → now ≡ states
     → now_met ≡ met
-    → HasRoomFor states met capacity
+    → HasRoomForSlots states met capacity
     → slot < length states
     → s ≢ New
-    → HasRoomFor (set now slot s) now_met capacity
+    → HasRoomForSlots (set now slot s) now_met capacity
 room_as_before states now met now_met capacity slot s e f h less differs =
-    subst (λ l. HasRoomFor (set l slot s) now_met capacity) (sym e)
+    subst (λ l. HasRoomForSlots (set l slot s) now_met capacity) (sym e)
     (
     record {
-      few = omega (arith, h.few, sum_by-set weight states slot s s less, weighs_nothing s differs, length-set states slot s, ap length f);
+      few = omega (arith, h.few, sum_by-set state_weight states slot s s less, weighs_nothing s differs, length-set states slot s, ap length f);
       fits = omega (arith, h.fits, length-set states slot s);
     }
     )
 
-pub room_after_pop : (states : List State) (met front : List ℕ) (capacity slot : ℕ) → met ≡ front ++ slot ∷ [] → HasRoomFor states met capacity → slot < length states → HasRoomFor (set states slot New) front capacity
+pub room_after_pop : (states : List State) (met front : List ℕ) (capacity slot : ℕ) → met ≡ front ++ slot ∷ [] → HasRoomForSlots states met capacity → slot < length states → HasRoomForSlots (set states slot New) front capacity
 room_after_pop states met front capacity slot e h less = record {
-  few = omega (arith, h.few, sum_by-set weight states slot New New less, weighs_little (get_or states slot New), length-set states slot New, ap length e, length-append front (slot ∷ []));
+  few = omega (arith, h.few, sum_by-set state_weight states slot New New less, weighs_little (get_or states slot New), length-set states slot New, ap length e, length-append front (slot ∷ []));
   fits = omega (arith, h.fits, length-set states slot New);
 }
 

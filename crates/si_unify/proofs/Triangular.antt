@@ -21,7 +21,7 @@ use Rattle.si_unify.specs.declared.circles.Visit.{Visit}
 use Rattle.si_unify.specs.declared.circles.Visit.TheVariants.{Enter}
 use Rattle.si_unify.specs.Solving.{Pairs, slot_count, slot_of, IsTriangularBy, IsAcyclic, RanksBelow, IsBinding}
 use Rattle.si_unify.specs.Spots.{cell_slot}
-use Rattle.si_unify.specs.Circles.{if_value, if_bound, with_slot, bound_slots, below_value, enter_each, visit_slot, visit_slots, IsDone, AreCovered, RanksUnder, ComeDown, slots_below, AreRanked, IsSearching, HasSearched, AreEntries, IsResolved, AreResolved, SaysTriangular}
+use Rattle.si_unify.specs.Circles.{if_value, if_bound, with_slot, bound_slots, below_value, enter_each, visit_slot, visit_slots, IsDone, AreCovered, RanksUnder, ComeDown, slots_below, AreRanked, IsSearching, HasSearchedCircle, AreEntries, IsResolved, AreResolved, SaysTriangular}
 use Rattle.si_unify.proofs.StateLaws.{new_at}
 use Rattle.si_unify.proofs.Searching.{ranks_below_cell}
 use Rattle.si_unify.specs.States.{AreNew}
@@ -265,7 +265,7 @@ pub search_tells :
     (slots : Slots) (pairs : Pairs) (states new : List State) (visits : List Visit) (mark : ℕ) (b : Bool)
     → AreEntries pairs mark (length pairs) visits
     → IsAcyclic slots (take mark pairs)
-    → HasSearched slots pairs states new visits b
+    → HasSearchedCircle slots pairs states new visits b
     → SaysTriangular slots pairs b
 search_tells slots pairs states new visits mark false e old h = λ t. h t.0 t.1
 search_tells slots pairs states new visits mark true e old h = (

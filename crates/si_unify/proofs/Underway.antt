@@ -5,9 +5,9 @@ use Rattle.si_unify.specs.declared.spots.SpotPair.{SpotPair}
 use Rattle.si_unify.specs.declared.spots.Subterm.{Subterm}
 use Rattle.si_unify.specs.declared.unifier.Unifier.{Unifier}
 use Rattle.si_unify.specs.Solving.{slot_count}
-use Rattle.si_unify.specs.Spots.{IsSpot, IsSubterm, IsApart, IsLegal, ArePairs, IsGoingOn, HasMet, HasCompared, HasClosed}
+use Rattle.si_unify.specs.Spots.{IsSpot, IsSubterm, IsApart, IsSoundQuestion, ArePairs, IsGoingOn, HasMetSpots, HasCompared, HasClosed}
 use Rattle.si_unify.specs.Rooms.{spot_pairs_room, most_spots}
-use Rattle.si_unify.specs.Unifying.{HasSpot, HasSubterm, AreApart, IsUnderway, HasRoom, KeepsQuestion, MakesMeet, MakesCompared, MakesClosed}
+use Rattle.si_unify.specs.Unifying.{HasSpot, HasSubterm, AreApart, IsUnifying, HasRoomToUnify, KeepsQuestion, MakesMeet, MakesCompared, MakesClosed}
 use Rattle.si_unify.proofs.Pieces.{all_within}
 
 pub stays : (u : Unifier) → KeepsQuestion u u
@@ -27,20 +27,20 @@ goes_further old mid new first then = record {
 -- what was found out by the question as it was at first holds now, and the other way round
 module _ (old new : Unifier) (goes : KeepsQuestion old new) where
   pub underway_still :
-      IsUnderway old
+      IsUnifying old
       → IsGoingOn old.question old.trail.now.pairs new.trail.now.pairs old.keys.now.keys new.keys.now.keys
-      → IsUnderway new
+      → IsUnifying new
   underway_still before going = record {
-    legal = subst (λ q. IsLegal q new.trail.now.pairs) (sym goes.question) going.legal;
+    legal = subst (λ q. IsSoundQuestion q new.trail.now.pairs) (sym goes.question) going.legal;
     keys = subst (λ q. ArePairs q new.trail.now.pairs new.keys.now.keys) (sym goes.question) going.keys;
     room = omega (arith, before.room, ap (λ q. slot_count q.slots) goes.question, goes.slots);
   }
 
   -- and what fits does, since each new value is a slice of what was handed in
   pub room_still : (n : ℕ)
-      → HasRoom n old
+      → HasRoomToUnify n old
       → IsGoingOn old.question old.trail.now.pairs new.trail.now.pairs old.keys.now.keys new.keys.now.keys
-      → HasRoom n new
+      → HasRoomToUnify n new
   room_still n room going =
       let same : new.question ≡ old.question = goes.question in
       record {
@@ -65,9 +65,9 @@ module _ (old new : Unifier) (goes : KeepsQuestion old new) where
 
   pub met_by : (next : Unifier) (left right : Spot) (b : Bool)
       → MakesMeet new next left right b
-      → HasMet old.question new.trail.now.pairs next.trail.now.pairs new.keys.now.keys next.keys.now.keys left right b
+      → HasMetSpots old.question new.trail.now.pairs next.trail.now.pairs new.keys.now.keys next.keys.now.keys left right b
   met_by next left right b h =
-      subst (λ q. HasMet q new.trail.now.pairs next.trail.now.pairs new.keys.now.keys next.keys.now.keys left right b) goes.question h
+      subst (λ q. HasMetSpots q new.trail.now.pairs next.trail.now.pairs new.keys.now.keys next.keys.now.keys left right b) goes.question h
 
   pub compared_by : (next : Unifier) (pair : SpotPair) (b : Bool)
       → MakesCompared new next pair b

@@ -16,7 +16,7 @@ use Rattle.si_unify.specs.declared.circles.Visit.TheVariants.{Enter}
 use Rattle.si_unify.specs.Solving.{Pairs, slot_count, IsBinding}
 use Rattle.si_unify.specs.Spots.{cell_slot}
 use Rattle.si_unify.specs.Rooms.{AreNoLongerThan}
-use Rattle.si_unify.specs.States.{weight, new_slots}
+use Rattle.si_unify.specs.States.{state_weight, new_slots}
 use Rattle.si_unify.specs.Circles.{if_bound, with_slot, bound_slots, enter_each, pile, visits_of, AreEntered, below_value, slots_below, most_visits, AreNoMore, VisitsLackRoom, IsSearching, visit_slot}
 use Rattle.si_unify.proofs.Places.{value_holds}
 
@@ -29,7 +29,7 @@ few_new (suc count) (Open ∷ states) = let few = few_new count states in omega 
 few_new (suc count) (Done ∷ states) = let few = few_new count states in omega (arith, few)
 
 -- a slot that becomes another state than new
-no_more_new : (count : ℕ) (states : List State) (slot : ℕ) (s : State) → weight s ≡ 0 → new_slots count (set states slot s) ≤ new_slots count states
+no_more_new : (count : ℕ) (states : List State) (slot : ℕ) (s : State) → state_weight s ≡ 0 → new_slots count (set states slot s) ≤ new_slots count states
 no_more_new zero states slot s none = omega arith
 no_more_new (suc count) [] slot s none = omega arith
 no_more_new (suc count) (x ∷ states) zero s none = omega (arith, none)
@@ -39,7 +39,7 @@ one_less_new : (count : ℕ) (states : List State) (slot : ℕ) → slot < count
 one_less_new zero states slot less is = absurd (omega arith)
 one_less_new (suc count) [] slot less is = let bad : None ≡ Some New = is in cc
 one_less_new (suc count) (x ∷ states) zero less is =
-    let new : x ≡ New = cc in omega (arith, ap weight new)
+    let new : x ≡ New = cc in omega (arith, ap state_weight new)
 one_less_new (suc count) (x ∷ states) (suc slot) less is =
     let rest = one_less_new count states slot (omega (arith, less)) is in omega (arith, rest)
 

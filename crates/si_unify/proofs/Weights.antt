@@ -10,7 +10,7 @@ use Rattle.si_flat.specs.declared.Cell.TheVariants as cell
 use Rattle.si_flat.specs.Cells.{Variable, query, entry, ind, Term, Terms, variable_cell, cells_of, cells_of_all}
 use Rattle.si_unify.specs.declared.slots.Slots.{Slots}
 use Rattle.si_unify.specs.Solving.{Pairs, slot_of, variable_of, IsInRange, CellIsInRange, AreInRange, Equalizes, IsSolvedBy, IsBinding, RanksBelow, IsAcyclic}
-use Rattle.si_unify.specs.Spots.{IsBelow, ComesDown, IsChained}
+use Rattle.si_unify.specs.Spots.{ChainComesDown, ComesDown, IsChained}
 use Rattle.si_unify.proofs.Places.{variable_of-slot_of, in_range-variable}
 use Rattle.si_unify.proofs.Meeting.{slot_of-cell}
 
@@ -81,7 +81,7 @@ module _ (slots : Slots) (pairs : Pairs) (chained : IsChained slots pairs) (f : 
   value_ranks z (terms.var x) cells is range down e =
       let range_x : AreInRange slots (variable_cell x ∷ []) = subst (AreInRange slots) is range in
       let down_x : ComesDown slots chained.rank z (variable_cell x ∷ []) = subst (ComesDown slots chained.rank z) is down in
-      let less : chained.rank (slot_of slots x) < chained.rank z = subst (IsBelow chained.rank z) (slot_of-cell slots x) down_x in
+      let less : chained.rank (slot_of slots x) < chained.rank z = subst (ChainComesDown chained.rank z) (slot_of-cell slots x) down_x in
       subst (AllByRecursion (RanksBelow slots weight_of z)) (sym is)
       (ranks_of_variable x z (bare x z (in_range-variable slots x range_x.0) e less), tt)
   value_ranks z (terms.app s ts) cells is range down e =

@@ -13,7 +13,7 @@ use Rattle.si_unify.specs.declared.circles.Visit.{Visit}
 use Rattle.si_unify.specs.declared.circles.Visit.TheVariants.{Enter, Leave}
 use Rattle.si_unify.specs.Solving.{Pairs, slot_count, IsTriangularBy, IsAcyclic, IsBinding}
 use Rattle.si_unify.specs.Spots.{cell_slot}
-use Rattle.si_unify.specs.States.{weight, new_slots}
+use Rattle.si_unify.specs.States.{state_weight, new_slots}
 use Rattle.si_unify.specs.Rooms.{AreNoLongerThan}
 
 -- the slot, if it is bound
@@ -126,15 +126,16 @@ pub record IsSearching (slots : Slots) (pairs : Pairs) (states : List State)
 abbrev pub StayDone : List State → List State → Type 0
 StayDone old new = (slot : ℕ) → IsDone old slot → IsDone new slot
 
-abbrev pub HasSearched : Slots → Pairs → List State → List State → List Visit → Bool → Type 0
-HasSearched slots pairs old new visits true =
+abbrev pub HasSearchedCircle : Slots → Pairs → List State → List State → List Visit → Bool → Type 0
+HasSearchedCircle slots pairs old new visits true =
     IsSearching slots pairs new [] × StayDone old new
     × ((slot : ℕ) → IsAmong (visit_slots visits) slot → IsDone new slot)
-HasSearched slots pairs old new visits false = (rank : ℕ → ℕ) → IsTriangularBy slots rank pairs → ⊥
+HasSearchedCircle slots pairs old new visits false =
+    (rank : ℕ → ℕ) → IsTriangularBy slots rank pairs → ⊥
 
 -- how much is left to do
 abbrev pub work : List State → List Visit → ℕ
-work states visits = sum_by weight states * 2 ^ 64 + length visits
+work states visits = sum_by state_weight states * 2 ^ 64 + length visits
 
 -- There are never more visits than this, where no value has more than n cells: each slot that is
 -- still new is left once, and each cell of its value enters one.
@@ -152,7 +153,7 @@ AreNoMore slots pairs old new old_visits new_visits = (n : ℕ) → AreNoLongerT
     → most_visits n slots new new_visits ≤ most_visits n slots old old_visits
 
 -- one visit has been made
-pub record HasStepped (slots : Slots) (pairs : Pairs) (old new : List State)
+pub record HasMadeVisit (slots : Slots) (pairs : Pairs) (old new : List State)
     (old_visits new_visits : List Visit) : Type 0 where
   pub searching : IsSearching slots pairs new new_visits
   pub stay : StayDone old new
@@ -163,7 +164,7 @@ pub record HasStepped (slots : Slots) (pairs : Pairs) (old new : List State)
 abbrev pub HasDone : Slots → Pairs → List State → List State → List Visit → List Visit → Bool
     → Type 0
 HasDone slots pairs old new old_visits new_visits true =
-    HasStepped slots pairs old new old_visits new_visits
+    HasMadeVisit slots pairs old new old_visits new_visits
 HasDone slots pairs old new old_visits new_visits false = (rank : ℕ → ℕ)
     → IsTriangularBy slots rank pairs → ⊥
 

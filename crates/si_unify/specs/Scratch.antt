@@ -5,7 +5,7 @@ use Rattle.si_unify.specs.States.{AreNew}
 use Rattle.si_unify.specs.Rooms.{SolverRoom, spot_pairs_room}
 
 -- nothing is left in the buffers
-pub record AreClear (buffers : Buffers) : Type 0 where
+pub record HoldNothing (buffers : Buffers) : Type 0 where
   pub keys : buffers.keys.keys ≡ []
   pub heights : buffers.heights.items ≡ []
   pub states : AreNew buffers.states.items

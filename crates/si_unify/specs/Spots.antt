@@ -31,16 +31,16 @@ pub record IsAt (cells : List Cell) (at : ℕ) (t : Term) : Type 0 where
   pub from : drop at cells ≡ cells_of t ++ after
   pub sound : IsSound t
 
-abbrev pub StandsAt : Question → Pairs → Spot → Term → Type 0
-StandsAt q pairs spot t = IsAt (text q pairs spot.base) spot.at t
+abbrev pub SpotStandsFor : Question → Pairs → Spot → Term → Type 0
+SpotStandsFor q pairs spot t = IsAt (text q pairs spot.base) spot.at t
 
 abbrev pub IsSpot : Question → Pairs → Spot → Type 0
-IsSpot q pairs spot = (t : Term) × StandsAt q pairs spot t
+IsSpot q pairs spot = (t : Term) × SpotStandsFor q pairs spot t
 
 -- the cells are those of the term that stands at the spot
 pub record IsSubterm (q : Question) (pairs : Pairs) (s : Subterm) : Type 0 where
   pub term : Term
-  pub stands : StandsAt q pairs s.spot term
+  pub stands : SpotStandsFor q pairs s.spot term
   pub whole : StandsFor s.cells.now term
 
 abbrev pub at_spot : Spot → Bor (List Cell) → Subterm
@@ -71,13 +71,13 @@ free_slot slots (cell.Entry n) = if slots.freeze_entry then None else Some (slot
 free_slot slots (cell.Ind n) = Some (slot_of slots (ind n))
 
 -- a chain of slots that are bound to bare variables comes down
-abbrev pub IsBelow : (ℕ → ℕ) → ℕ → Option ℕ → Type 0
-IsBelow rank slot None = Unit {0}
-IsBelow rank slot (Some next) = rank next < rank slot
+abbrev pub ChainComesDown : (ℕ → ℕ) → ℕ → Option ℕ → Type 0
+ChainComesDown rank slot None = Unit {0}
+ChainComesDown rank slot (Some next) = rank next < rank slot
 
 abbrev pub ComesDown : Slots → (ℕ → ℕ) → ℕ → List Cell → Type 0
 ComesDown slots rank slot [] = Unit {0}
-ComesDown slots rank slot (c ∷ cs) = IsBelow rank slot (cell_slot slots c)
+ComesDown slots rank slot (c ∷ cs) = ChainComesDown rank slot (cell_slot slots c)
 
 pub record IsChained (slots : Slots) (pairs : Pairs) : Type 0 where
   pub rank : ℕ → ℕ
@@ -86,7 +86,7 @@ pub record IsChained (slots : Slots) (pairs : Pairs) : Type 0 where
   pub down : AllByRecursion (λ pair. ComesDown slots rank pair.0 pair.1.now) pairs
 
 -- what holds of the bindings and the two terms while an equation is being solved
-pub record IsLegal (q : Question) (pairs : Pairs) : Type 0 where
+pub record IsSoundQuestion (q : Question) (pairs : Pairs) : Type 0 where
   pub bindings : AllByRecursion (IsBinding q.slots) pairs
   pub left_whole : IsWhole q.left.now
   pub right_whole : IsWhole q.right.now
@@ -98,12 +98,12 @@ pub record IsLegal (q : Question) (pairs : Pairs) : Type 0 where
 -- the pairs of spots whose terms are no larger than n, as f makes them, are made equal
 abbrev pub MakesEqual : Question → Pairs → (Variable → Term) → SpotPair → Type 0
 MakesEqual q pairs f pair =
-    (t u : Term) → StandsAt q pairs pair.left t → StandsAt q pairs pair.right u
+    (t u : Term) → SpotStandsFor q pairs pair.left t → SpotStandsFor q pairs pair.right u
     → terms.substitute f t ≡ terms.substitute f u
 
 abbrev pub MakesEqualUpTo : Question → Pairs → (Variable → Term) → ℕ → SpotPair → Type 0
 MakesEqualUpTo q pairs f n pair =
-    (t u : Term) → StandsAt q pairs pair.left t → StandsAt q pairs pair.right u
+    (t u : Term) → SpotStandsFor q pairs pair.left t → SpotStandsFor q pairs pair.right u
     → terms.size (terms.substitute f t) ≤ n → terms.substitute f t ≡ terms.substitute f u
 
 -- a pair of symbols' spots, whose heads are the same
@@ -115,8 +115,8 @@ pub record IsApart (q : Question) (pairs : Pairs) (pair : SpotPair) : Type 0 whe
   pub symbol : Symbol
   pub left_arguments : Terms
   pub right_arguments : Terms
-  pub left : StandsAt q pairs pair.left (terms.app symbol left_arguments)
-  pub right : StandsAt q pairs pair.right (terms.app symbol right_arguments)
+  pub left : SpotStandsFor q pairs pair.left (terms.app symbol left_arguments)
+  pub right : SpotStandsFor q pairs pair.right (terms.app symbol right_arguments)
 
 -- ---- what the steps do
 -- the cell at a spot is a symbol's or an unbound variable's
@@ -142,7 +142,7 @@ pub record IsEnd (q : Question) (pairs : Pairs) (spot : Spot) : Type 0 where
 -- the spot has come down its chain of bound variables to another, which each solution makes equal
 pub record ComesTo (q : Question) (pairs : Pairs) (t : Term) (spot : Spot) : Type 0 where
   pub term : Term
-  pub stands : StandsAt q pairs spot term
+  pub stands : SpotStandsFor q pairs spot term
   pub same : (f : Variable → Term) → IsSolvedBy q.slots pairs f
       → terms.substitute f t ≡ terms.substitute f term
   pub ends : IsUnbound pairs (slot_at q pairs spot)
@@ -194,7 +194,7 @@ pub record IsGoingOn (q : Question) (old new : Pairs)
     (old_keys new_keys : List SpotPair) : Type 0 where
   pub grows : Grows old new
   pub keys_grow : Grows old_keys new_keys
-  pub legal : IsLegal q new
+  pub legal : IsSoundQuestion q new
   pub keys : ArePairs q new new_keys
   pub handed_in : AreHandedIn old new q.left.now q.right.now
 
@@ -202,7 +202,7 @@ pub record IsGoingOn (q : Question) (old new : Pairs)
 pub record Binds (q : Question) (old new : Pairs) (slot : ℕ) (spot : Spot) : Type 0 where
   pub value : Bor (List Cell)
   pub pairs : new ≡ old ++ (slot, value) ∷ []
-  pub whole : (u : Term) → StandsAt q old spot u → StandsFor value.now u
+  pub whole : (u : Term) → SpotStandsFor q old spot u → StandsFor value.now u
   pub in_range : AreInRange q.slots value.now
   pub piece : IsPieceOf (text q old spot.base) value.now
 
@@ -211,19 +211,19 @@ same_slot (Some m) (Some n) = m == n
 same_slot _ _ = false
 
 -- the outcome of meeting: the two spots' terms are made equal, or none makes them equal
-abbrev pub HasMet : Question → Pairs → Pairs → List SpotPair → List SpotPair → Spot → Spot
+abbrev pub HasMetSpots : Question → Pairs → Pairs → List SpotPair → List SpotPair → Spot → Spot
     → Bool → Type 0
-HasMet q old new old_keys new_keys left right true =
+HasMetSpots q old new old_keys new_keys left right true =
     IsGoingOn q old new old_keys new_keys
-    × ((t u : Term) → StandsAt q old left t → StandsAt q old right u
+    × ((t u : Term) → SpotStandsFor q old left t → SpotStandsFor q old right u
     → Meets q old new old_keys new_keys t u)
-HasMet q old new old_keys new_keys left right false = (t u : Term) → StandsAt q old left t
-    → StandsAt q old right u → Refutes q old t u
+HasMetSpots q old new old_keys new_keys left right false = (t u : Term) → SpotStandsFor q old left t
+    → SpotStandsFor q old right u → Refutes q old t u
 
 -- two terms that are equal for each solution that makes the pairs equal whose terms are smaller
 abbrev pub Follows : Question → Pairs → List SpotPair → SpotPair → Type 0
 Follows q pairs keys pair =
-    (t u : Term) → StandsAt q pairs pair.left t → StandsAt q pairs pair.right u
+    (t u : Term) → SpotStandsFor q pairs pair.left t → SpotStandsFor q pairs pair.right u
     → (f : Variable → Term) → IsSolvedBy q.slots pairs f
     → ((n : ℕ) → n < terms.size (terms.substitute f t)
     → AllByRecursion (MakesEqualUpTo q pairs f n) keys)
@@ -245,7 +245,7 @@ HasCompared q old new old_keys new_keys pair false =
 -- a solution of the new ones.
 abbrev pub HasClosed : Question → Pairs → Pairs → List SpotPair → Bool → Type 0
 HasClosed q old new keys true =
-    IsLegal q new
+    IsSoundQuestion q new
     × ((f : Variable → Term) → IsSolvedBy q.slots new f → AllByRecursion (MakesEqual q new f) keys)
     × ((f : Variable → Term) → IsSolvedBy q.slots old f → AllByRecursion (MakesEqual q old f) keys
     → IsSolvedBy q.slots new f)

@@ -15,20 +15,20 @@ abbrev pub AreNew : List State → Type 0
 AreNew = AllByRecursion (λ s. s ≡ New)
 
 -- how often a state is that of a new slot
-abbrev pub weight : State → ℕ
-weight New = 1
-weight Open = 0
-weight Done = 0
+abbrev pub state_weight : State → ℕ
+state_weight New = 1
+state_weight Open = 0
+state_weight Done = 0
 
 -- how many of the first so many slots are new
 abbrev pub new_slots : ℕ → List State → ℕ
 new_slots zero states = 0
 new_slots (suc n) [] = 0
-new_slots (suc n) (s ∷ states) = weight s + new_slots n states
+new_slots (suc n) (s ∷ states) = state_weight s + new_slots n states
 
 -- each new slot still finds room among those that were met
-pub record HasRoomFor (states : List State) (met : List ℕ) (capacity : ℕ) : Type 0 where
-  pub few : length met + sum_by weight states ≤ length states
+pub record HasRoomForSlots (states : List State) (met : List ℕ) (capacity : ℕ) : Type 0 where
+  pub few : length met + sum_by state_weight states ≤ length states
   pub fits : length states ≤ capacity
 
 -- each slot that isn't new is one of these, which are slots

@@ -6,7 +6,7 @@ use Rattle.si_unify.specs.declared.spots.Subterm.{Subterm}
 use Rattle.si_unify.specs.declared.unifier.Unifier.{Unifier}
 use Rattle.si_unify.specs.Solving.{slot_count}
 use Rattle.si_unify.specs.Rooms.{spot_pairs_room, AreNoLongerThan, most_spots}
-use Rattle.si_unify.specs.Spots.{IsSpot, IsSubterm, IsEnd, IsApart, IsLegal, ArePairs, HasMet, HasCompared, HasClosed}
+use Rattle.si_unify.specs.Spots.{IsSpot, IsSubterm, IsEnd, IsApart, IsSoundQuestion, ArePairs, HasMetSpots, HasCompared, HasClosed}
 
 -- ---- spots, over the bindings so far
 abbrev pub HasSpot : Unifier → Spot → Type 0
@@ -22,14 +22,14 @@ abbrev pub AreApart : Unifier → SpotPair → Type 0
 AreApart u = IsApart u.question u.trail.now.pairs
 
 -- what holds before each step
-pub record IsUnderway (u : Unifier) : Type 0 where
-  pub legal : IsLegal u.question u.trail.now.pairs
+pub record IsUnifying (u : Unifier) : Type 0 where
+  pub legal : IsSoundQuestion u.question u.trail.now.pairs
   pub keys : ArePairs u.question u.trail.now.pairs u.keys.now.keys
   pub room : slot_count u.question.slots ≤ u.trail.now.slots
 
 -- the heights and the pairs of spots find room, whatever comes up: neither term and no value has
 -- more than n cells
-pub record HasRoom (n : ℕ) (u : Unifier) : Type 0 where
+pub record HasRoomToUnify (n : ℕ) (u : Unifier) : Type 0 where
   pub values : AreNoLongerThan n u.trail.now.pairs
   pub left : length u.question.left.now ≤ n
   pub right : length u.question.right.now ≤ n
@@ -39,7 +39,7 @@ pub record HasRoom (n : ℕ) (u : Unifier) : Type 0 where
       ≤ spot_pairs_room u.keys.now
 
 abbrev pub SpotsLackRoom : Unifier → Type 0
-SpotsLackRoom u = (n : ℕ) → HasRoom n u → ⊥
+SpotsLackRoom u = (n : ℕ) → HasRoomToUnify n u → ⊥
 
 -- the question, the lent memory and the number of slots stay, and there is no less room
 pub record KeepsQuestion (old new : Unifier) : Type 0 where
@@ -54,7 +54,8 @@ pub record KeepsQuestion (old new : Unifier) : Type 0 where
 -- ---- the outcomes
 abbrev pub MakesMeet : Unifier → Unifier → Spot → Spot → Bool → Type 0
 MakesMeet old new =
-    HasMet old.question old.trail.now.pairs new.trail.now.pairs old.keys.now.keys new.keys.now.keys
+    HasMetSpots old.question old.trail.now.pairs new.trail.now.pairs old.keys.now.keys
+    new.keys.now.keys
 
 abbrev pub MakesCompared : Unifier → Unifier → SpotPair → Bool → Type 0
 MakesCompared old new =

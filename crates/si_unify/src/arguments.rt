@@ -2,7 +2,7 @@
 ghost use Rattle.std.specs.Prelude.{◌≡◌, ◌+◌, ◌^◌, ◌<◌, [], length, IfOk, OnErr};
 ghost use Rattle.si_defs.specs.Substitutions.{Grows};
 ghost use Rattle.si_unify.specs.Spots.{left_spot, right_spot, spots_of};
-ghost use Rattle.si_unify.specs.Unifying.{HasSubterm, AreApart, IsUnderway, SpotsLackRoom, KeepsQuestion, MakesMeet, MakesCompared, MakesClosed};
+ghost use Rattle.si_unify.specs.Unifying.{HasSubterm, AreApart, IsUnifying, SpotsLackRoom, KeepsQuestion, MakesMeet, MakesCompared, MakesClosed};
 
 use crate::spots::{Spot, Subterm};
 use crate::symbols::have_same_symbol;
@@ -13,7 +13,7 @@ use std::alloc::AllocError;
 impl<'s, 'a> Unifier<'s, 'a> {
     // Compares two spots whose symbols are the same, argument by argument.
     fn compare(&mut self, left: Subterm<'a>, right: Subterm<'a>) -> Result<bool, AllocError>
-        requires underway { IsUnderway self.old }
+        requires underway { IsUnifying self.old }
         requires apart { AreApart self.old (spots_of left right) }
         requires left { HasSubterm self.old left }
         requires right { HasSubterm self.old right }
@@ -59,7 +59,7 @@ impl<'s, 'a> Unifier<'s, 'a> {
     // Makes the two terms of the question equal. It does what `meet` does at their first cells, but
     // compares their arguments at once: no other equation comes to this pair.
     pub(crate) fn meet_terms(&mut self) -> Result<bool, AllocError>
-        requires underway { IsUnderway self.old }
+        requires underway { IsUnifying self.old }
         requires none { self.old.keys.now.keys ≡ [] }
         requires left_small { length self.old.question.left.now < 2 ^ 64 }
         requires right_small { length self.old.question.right.now < 2 ^ 64 }
@@ -89,7 +89,7 @@ impl<'s, 'a> Unifier<'s, 'a> {
 
     // Compares the pairs, and those that come up, until none is left.
     pub(crate) fn close(&mut self) -> Result<bool, AllocError>
-        requires underway { IsUnderway self.old }
+        requires underway { IsUnifying self.old }
         ensures closed { IfOk result (MakesClosed self.old self.new) }
         ensures grows { Grows self.old.trail.now.pairs self.new.trail.now.pairs }
         ensures full { OnErr result (SpotsLackRoom self.old) }

@@ -2,7 +2,7 @@
 ghost use Rattle.std.specs.Prelude.{◌≡◌, ℕ, ◌+◌, ◌*◌, ◌<◌, ◌≤◌, ◌↔◌, IsTrue, length, take, reverse, ◌++◌, ◌∷◌, [], IfOk, OnOk, OnErr, vec_capacity};
 ghost use Rattle.std.specs.List.{AllByRecursion};
 ghost use Rattle.si_trail.specs.Trails.{HasDistinctSlots};
-ghost use Rattle.si_unify.specs.Circles.{if_bound, visits_of, AreEntered, AreEntries, IsResolved, AreResolved, IsSearching, HasSearched, HasDone, VisitsLackRoom, AreNoMore, SaysTriangular};
+ghost use Rattle.si_unify.specs.Circles.{if_bound, visits_of, AreEntered, AreEntries, IsResolved, AreResolved, IsSearching, HasSearchedCircle, HasDone, VisitsLackRoom, AreNoMore, SaysTriangular};
 ghost use Rattle.si_unify.specs.Rooms.{AreNoLongerThan};
 ghost use Rattle.si_unify.specs.Solving.{slot_count, IsAcyclic, IsBinding};
 ghost use Rattle.si_unify.specs.States.{AreNew};
@@ -121,7 +121,7 @@ fn search<'a>(
     visits: &mut Vec<Visit>,
 ) -> Result<bool, AllocError>
     requires { IsSearching slots.now trail.now.pairs states.old.items (reverse visits.old.items) }
-    ensures searched { IfOk result (HasSearched slots.now trail.now.pairs states.old.items
+    ensures searched { IfOk result (HasSearchedCircle slots.now trail.now.pairs states.old.items
         states.new.items (reverse visits.old.items)) }
     ensures full { OnErr result (VisitsLackRoom slots.now trail.now.pairs states.old.items
         (length visits.old.items) (vec_capacity visits.old)) }

@@ -4,7 +4,7 @@ ghost use Rattle.si_unify.specs.Heights.{is_right_lower};
 ghost use Rattle.si_unify.specs.Rooms.{spot_pairs_room};
 ghost use Rattle.si_unify.specs.Solving.{slot_count};
 ghost use Rattle.si_unify.specs.Spots.{same_slot, IsAdded, HasNoRoomFor};
-ghost use Rattle.si_unify.specs.Unifying.{HasSubterm, HasEnd, IsUnderway, SpotsLackRoom, KeepsQuestion, MakesMeet};
+ghost use Rattle.si_unify.specs.Unifying.{HasSubterm, HasEnd, IsUnifying, SpotsLackRoom, KeepsQuestion, MakesMeet};
 
 use crate::heights::Heights;
 use crate::slots::Slots;
@@ -61,7 +61,7 @@ impl<'s, 'a> Unifier<'s, 'a> {
     // Makes two spots equal of which neither is a bound variable's: it binds a variable, or adds
     // the two to the pairs that are to be compared.
     fn meet_ends(&mut self, left: Subterm<'a>, right: Subterm<'a>) -> Result<bool, AllocError>
-        requires underway { IsUnderway self.old }
+        requires underway { IsUnifying self.old }
         requires left { HasSubterm self.old left }
         requires right { HasSubterm self.old right }
         requires left_end { HasEnd self.old left.spot }
@@ -112,7 +112,7 @@ impl<'s, 'a> Unifier<'s, 'a> {
 
     // Makes two spots equal.
     pub(crate) fn meet(&mut self, left: Subterm<'a>, right: Subterm<'a>) -> Result<bool, AllocError>
-        requires underway { IsUnderway self.old }
+        requires underway { IsUnifying self.old }
         requires left { HasSubterm self.old left }
         requires right { HasSubterm self.old right }
         ensures met { IfOk result (MakesMeet self.old self.new left.entry.spot right.entry.spot) }

@@ -2,7 +2,7 @@
 ghost use Rattle.std.specs.Prelude.{◌≡◌, ◌*◌, ◌<◌, ◌^◌, [], OnOk, OnErr};
 ghost use Rattle.std.specs.Option.{SomeIff};
 ghost use Rattle.si_unify.specs.Rooms.{IsEnoughToSolve, IsNoLessRoom, most_spots};
-ghost use Rattle.si_unify.specs.Scratch.{AreClear, buffers_room};
+ghost use Rattle.si_unify.specs.Scratch.{HoldNothing, buffers_room};
 ghost use Rattle.si_unify.specs.States.{AreNew};
 
 use crate::circles::Visit;
@@ -41,8 +41,8 @@ pub(crate) struct Buffers {
 impl Buffers {
     // Makes room for all terms and bindings over these slots, where none has more than `cells`.
     fn reserve(&mut self, slots: &Slots, cells: usize) -> Result<(), AllocError>
-        requires { AreClear self.old }
-        ensures clear { AreClear self.new }
+        requires { HoldNothing self.old }
+        ensures clear { HoldNothing self.new }
         ensures enough { OnOk result (IsEnoughToSolve slots.now cells (buffers_room self.new)) }
         ensures full { OnErr result (IsEnoughToSolve slots.now cells (buffers_room self.old) → ⊥) }
         ensures keeps { IsNoLessRoom (buffers_room self.old) (buffers_room self.new) }
@@ -89,13 +89,13 @@ pub struct Scratch {
 
 impl Model for Scratch {
     ghost use Rattle.si_unify.specs.Rooms.{SolverRoom};
-    ghost use Rattle.si_unify.specs.Scratch.{AreClear, buffers_room};
+    ghost use Rattle.si_unify.specs.Scratch.{HoldNothing, buffers_room};
 
     ghost Value = { SolverRoom };
 
     ghost view = { λ s. buffers_room s.buffers };
 
-    ghost invariant = { λ s. AreClear s.buffers };
+    ghost invariant = { λ s. HoldNothing s.buffers };
 }
 
 impl Scratch {

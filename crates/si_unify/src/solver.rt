@@ -4,11 +4,11 @@ ghost use Rattle.std.specs.List.{AllByRecursion};
 ghost use Rattle.si_defs.specs.Substitutions.{Grows};
 ghost use Rattle.si_flat.specs.Cells.{IsWhole};
 ghost use Rattle.si_unify.specs.Rooms.{AreNoLongerThan, IsEnoughToSolve, IsNoLessRoom};
-ghost use Rattle.si_unify.specs.Scratch.{AreClear, buffers_room};
+ghost use Rattle.si_unify.specs.Scratch.{HoldNothing, buffers_room};
 ghost use Rattle.si_unify.specs.Solving.{slot_count, AreInRange, IsAcyclic, IsBinding, AreHandedIn, HasSolved};
 ghost use Rattle.si_unify.specs.States.{AreNew};
 ghost use Rattle.si_unify.specs.Spots.{HasAnswered};
-ghost use Rattle.si_unify.specs.Unifying.{IsUnderway, HasRoom, KeepsQuestion};
+ghost use Rattle.si_unify.specs.Unifying.{IsUnifying, HasRoomToUnify, KeepsQuestion};
 
 use crate::circles::{Visit, is_triangular};
 use crate::scratch::{Buffers, Scratch};
@@ -23,7 +23,7 @@ use std::alloc::{AllocError, Global};
 impl<'s, 'a> Unifier<'s, 'a> {
     // Makes the two terms equal, and leaves what it bound.
     fn solve(&mut self, states: &mut States, visits: &mut Vec<Visit>) -> Result<bool, AllocError>
-        requires underway { IsUnderway self.old }
+        requires underway { IsUnifying self.old }
         requires triangular { IsAcyclic self.old.question.slots self.old.trail.now.pairs }
         requires left_small { length self.old.question.left.now < 2 ^ 64 }
         requires right_small { length self.old.question.right.now < 2 ^ 64 }
@@ -33,7 +33,7 @@ impl<'s, 'a> Unifier<'s, 'a> {
         ensures answered { IfOk result (HasAnswered self.old.question self.old.trail.now.pairs
             self.new.trail.now.pairs) }
         ensures grows { Grows self.old.trail.now.pairs self.new.trail.now.pairs }
-        ensures full { OnErr result ((n : ℕ) → HasRoom n self.old
+        ensures full { OnErr result ((n : ℕ) → HasRoomToUnify n self.old
             → slot_count self.old.question.slots ≤ states.old.room
             → slot_count self.old.question.slots * (n + 2) ≤ vec_capacity visits.old → ⊥) }
         ensures keeps_question { KeepsQuestion self.old self.new }
@@ -57,7 +57,7 @@ fn attempt<'a>(
     trail: &mut Trail<&'a [Cell]>,
     question: &Question<'a>,
 ) -> Result<bool, AllocError>
-    requires clear { AreClear buffers.old }
+    requires clear { HoldNothing buffers.old }
     requires left { IsWhole question.now.left.now }
     requires right { IsWhole question.now.right.now }
     requires left_small { length question.now.left.now < 2 ^ 64 }

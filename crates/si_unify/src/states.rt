@@ -27,7 +27,7 @@ pub(crate) struct States {
 
 impl Model for States {
     ghost use Rattle.std.specs.Prelude.{min, vec_capacity};
-    ghost use Rattle.si_unify.specs.States.{SlotStates, AreMet, HasRoomFor};
+    ghost use Rattle.si_unify.specs.States.{SlotStates, AreMet, HasRoomForSlots};
 
     ghost Value = { SlotStates };
 
@@ -37,7 +37,7 @@ impl Model for States {
     } };
 
     ghost invariant = { λ s. AreMet s.states.items s.met.items
-        × HasRoomFor s.states.items s.met.items (vec_capacity s.met) };
+        × HasRoomForSlots s.states.items s.met.items (vec_capacity s.met) };
 }
 
 impl States {

@@ -1,8 +1,8 @@
 // The solver at work: the question, the bindings so far, and the pairs that are left.
 ghost use Rattle.std.specs.Prelude.{◌≡◌, ◌+◌, ◌^◌, ◌<◌, length};
 ghost use Rattle.si_flat.specs.Cells.{Term};
-ghost use Rattle.si_unify.specs.Spots.{text, at_spot, StandsAt, ComesTo};
-ghost use Rattle.si_unify.specs.Unifying.{HasSpot, HasSubterm, IsUnderway};
+ghost use Rattle.si_unify.specs.Spots.{text, at_spot, SpotStandsFor, ComesTo};
+ghost use Rattle.si_unify.specs.Unifying.{HasSpot, HasSubterm, IsUnifying};
 
 use crate::heights::Heights;
 use crate::spots::{Question, Spot, SpotPair, Subterm};
@@ -43,7 +43,7 @@ impl<'s, 'a> Unifier<'s, 'a> {
 
     // The cells of the term at a spot.
     pub(crate) fn cells_at(&self, spot: Spot) -> &'a [Cell]
-        requires underway { IsUnderway self.now }
+        requires underway { IsUnifying self.now }
         requires spot { HasSpot self.now spot }
         ensures subterm { HasSubterm self.now (at_spot spot result) }
         ensures small { spot.at + length result.now < 2 ^ 64 }
@@ -53,9 +53,9 @@ impl<'s, 'a> Unifier<'s, 'a> {
 
     // Goes down a chain of variables that are bound to variables.
     pub(crate) fn follow(&self, from: Subterm<'a>) -> Subterm<'a>
-        requires underway { IsUnderway self.now }
+        requires underway { IsUnifying self.now }
         requires subterm { HasSubterm self.now from }
-        ensures comes { (t : Term) → StandsAt self.now.question self.now.trail.now.pairs
+        ensures comes { (t : Term) → SpotStandsFor self.now.question self.now.trail.now.pairs
             from.entry.spot t → ComesTo self.now.question self.now.trail.now.pairs t result.spot }
         ensures subterm { HasSubterm self.now result }
     {

@@ -3,7 +3,7 @@ ghost use Rattle.std.specs.Prelude.{◌≡◌, IfOk};
 ghost use Rattle.si_lex.specs.Lexemes.{token_of};
 ghost use Rattle.si_parse.specs.Brackets.{IsEdge, IsTurn, pending_of};
 ghost use Rattle.si_parse.specs.GrammarRules.{AreAnnotations};
-ghost use Rattle.si_parse.specs.Parsing.{Passes};
+ghost use Rattle.si_parse.specs.Parsing.{PassesTokens};
 
 use si_defs::TokenKind;
 use si_lex::Lexeme;
@@ -40,7 +40,7 @@ pub(crate) fn annotations<'t, 'b>(
     alloc: Global,
     tokens: &'t [Lexeme<'b>],
 ) -> Result<Option<&'t [Lexeme<'b>]>, AllocError>
-    ensures { IfOk result (Passes AreAnnotations tokens.now) }
+    ensures { IfOk result (PassesTokens AreAnnotations tokens.now) }
 {
     let mut pending: Vec<Bracket> = Vec::new(alloc);
     for (n, token) in tokens.iter().enumerate() {

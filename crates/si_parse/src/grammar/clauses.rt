@@ -4,7 +4,7 @@ ghost use Rattle.si_defs.specs.Clauses.{IsSoundClause};
 ghost use Rattle.si_defs.specs.Grammar.{IsClause};
 ghost use Rattle.si_parse.specs.GrammarRules.{IsClosed, IsHeading};
 ghost use Rattle.si_parse.specs.Meaning.{heading_of};
-ghost use Rattle.si_parse.specs.Parsing.{Anything, IfFound, Passes, Reads};
+ghost use Rattle.si_parse.specs.Parsing.{Anything, IfFound, PassesTokens, Reads};
 ghost use Rattle.si_defs.specs.declared.TheConstants.{MOST_BYTES};
 ghost use Rattle.si_term.specs.Meaning.{clause_of};
 
@@ -82,7 +82,7 @@ fn closed<'t, 'b>(
     alloc: Global,
     tokens: &'t [Lexeme<'b>],
 ) -> Result<Option<&'t [Lexeme<'b>]>, AllocError>
-    ensures { IfOk result (Passes IsClosed tokens.now) }
+    ensures { IfOk result (PassesTokens IsClosed tokens.now) }
 {
     match mark_at(tokens, b',') {
         Some(rest) => annotations(alloc, rest),

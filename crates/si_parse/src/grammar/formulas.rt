@@ -5,7 +5,7 @@ ghost use Rattle.si_defs.specs.Grammar.{IsFormula, left_bracket};
 ghost use Rattle.si_lex.specs.Lexemes.{tokens_of};
 ghost use Rattle.si_parse.specs.GrammarRules.{AreClosing, AreLiterals};
 ghost use Rattle.si_parse.specs.Meaning.{literals_of};
-ghost use Rattle.si_parse.specs.Parsing.{IfFound, NoBracket, NoLiteral, Passes, Reads};
+ghost use Rattle.si_parse.specs.Parsing.{IfFound, NoBracket, NoLiteral, PassesTokens, Reads};
 ghost use Rattle.si_defs.specs.declared.TheConstants.{MOST_BYTES};
 
 use crate::grammar::literals::front_literal;
@@ -112,7 +112,7 @@ fn opening_brackets<'t, 'b>(tokens: &'t [Lexeme<'b>]) -> (usize, &'t [Lexeme<'b>
 
 /// The tokens after so many closing round brackets.
 fn closing_brackets<'t, 'b>(tokens: &'t [Lexeme<'b>], count: usize) -> Option<&'t [Lexeme<'b>]>
-    ensures { Passes (AreClosing count) tokens.now result }
+    ensures { PassesTokens (AreClosing count) tokens.now result }
 {
     let mut left = tokens;
     for n in 0..count {

@@ -3,7 +3,7 @@ ghost use Rattle.std.specs.Prelude.{◌≡◌, IfOk};
 ghost use Rattle.si_defs.specs.Grammar.{IsSelection};
 ghost use Rattle.si_parse.specs.GrammarRules.{AreChosen, AreLast, IsInclude};
 ghost use Rattle.si_parse.specs.Meaning.{include_of, names_of, selection_of};
-ghost use Rattle.si_parse.specs.Parsing.{Anything, NoName, Passes, Reads};
+ghost use Rattle.si_parse.specs.Parsing.{Anything, NoName, PassesTokens, Reads};
 
 use crate::grammar::names::{file, names};
 use crate::grammar::{Parsed, mark_at, opening};
@@ -48,7 +48,7 @@ pub fn include<'t, 'b>(
 
 /// The tokens after a closing bracket and a full stop.
 fn last<'t, 'b>(tokens: &'t [Lexeme<'b>]) -> Option<&'t [Lexeme<'b>]>
-    ensures { Passes AreLast tokens.now result }
+    ensures { PassesTokens AreLast tokens.now result }
 {
     let Some(rest) = mark_at(tokens, b')') else {
         return None;

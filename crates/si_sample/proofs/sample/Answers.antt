@@ -1,6 +1,6 @@
 use Rattle.std.proofs.Common.{◌≡◌, arith, subst}
 use Rattle.si_defs.specs.Generator.{clauses, IsSample}
-use Rattle.si_sample.specs.Sampling.{Gains}
+use Rattle.si_sample.specs.Sampling.{DrawsOnto}
 use Rattle.si_sample.proofs.Gaining.{gains_no_clause, gains_one_more, is_sample}
 use Rattle.si_sample.proofs.Lengths.{length_sample}
 use Rattle.si_sample.proofs.Lines.{sample_is_clauses}
@@ -16,7 +16,7 @@ drawn : (c : goal.After-into_text) → IsSample c.args.start c.args.count c.into
 drawn c =
     let all : c.loop-i.i ≡ c.args.count = omega (arith, c.loop-i-test.false, c.loop-i.auto.i-end) in
     is_sample c.args.start c.args.count c.into_text.result.items c.new-sampler.ensures.state c.new-sampler.ensures.text c.into_text.ensures
-    (subst (λ n. Gains (clauses n) c.new-sampler.result c.loop-i.sampler) all c.loop-i.invariant)
+    (subst (λ n. DrawsOnto (clauses n) c.new-sampler.result c.loop-i.sampler) all c.loop-i.invariant)
 
 pub returns-clause-drawn : goal.returns-clause-drawn
 returns-clause-drawn c = drawn c

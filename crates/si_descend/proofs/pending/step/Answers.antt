@@ -4,7 +4,7 @@ use Rattle.si_defs.specs.Substitutions.{Grows}
 use Rattle.si_term.proofs.Results.{on_err}
 use Rattle.si_tree.specs.Reading.{AtNode, IsNode, children_of}
 use Rattle.si_descend.specs.Lending.{IsEnoughForTree}
-use Rattle.si_descend.specs.Pending.{cut, marks_of, MayVisit}
+use Rattle.si_descend.specs.Pending.{cut_back, marks_of, MayVisit}
 use Rattle.si_descend.specs.Searching.{AreOpenBelow, HasEntered}
 use Rattle.si_descend.proofs.EnoughLaws.{enough_cut}
 use Rattle.si_descend.proofs.PendingLaws.{grows_cut, no_shorter}
@@ -17,7 +17,7 @@ push_all-requires c = due_node c.args.search.now c.args.trail.now c.args.taken.n
 
 pub returns-then-next-clause-steps : goal.returns-then-next-clause-steps
 returns-then-next-clause-steps c =
-    let may : MayVisit c.args.search.now c.args.next.node (cut c.args.next.mark c.args.trail.now) (cut c.args.next.taken_mark c.args.taken.now) true = subst (MayVisit c.args.search.now c.args.next.node (cut c.args.next.mark c.args.trail.now) (cut c.args.next.taken_mark c.args.taken.now)) c.if-next.true c.requires.due.may in
+    let may : MayVisit c.args.search.now c.args.next.node (cut_back c.args.next.mark c.args.trail.now) (cut_back c.args.next.taken_mark c.args.taken.now) true = subst (MayVisit c.args.search.now c.args.next.node (cut_back c.args.next.mark c.args.trail.now) (cut_back c.args.next.taken_mark c.args.taken.now)) c.if-next.true c.requires.due.may in
     let node : IsNode c.args.search.now.tree.now c.args.next.node = may.0 in
     let open_below : AreOpenBelow c.args.search.now c.args.next.node = may.1 in (
       open_at c.args.search.now c.args.next.node open_below,

@@ -5,7 +5,7 @@ use Rattle.si_term.proofs.Results.{on_err}
 use Rattle.std.proofs.lemmas.List.{length-map}
 use Rattle.si_term.specs.Meaning.{literal_of}
 use Rattle.si_term.proofs.Literals.{length-literals_size}
-use Rattle.si_flat.specs.Flattening.{walk_state, room_of, Fits}
+use Rattle.si_flat.specs.Flattening.{walk_state, room_of, FitsRoom}
 use Rattle.si_flat.specs.Rooms.{IsNoLess}
 use Rattle.si_flat.specs.FlatClauses.{clause_piece}
 use Rattle.si_flat.proofs.ClauseRooms.{fits_atoms}
@@ -33,7 +33,7 @@ returns-clause-flat g c =
 
 pub returns-in_err-push-clause-full : goal.returns-in_err-push-clause-full
 returns-in_err-push-clause-full g c =
-    let refused : Fits (g.T.SymTable.pairs c.args.table.now) (room_of c.args.met.now (vec_capacity c.args.cells.now)) (walk_state c.args.met.now []) (clause_piece (map literal_of c.args.literals.now)) (1 + literals_size (map literal_of c.args.literals.now)) → ⊥ = λ fits.
+    let refused : FitsRoom (g.T.SymTable.pairs c.args.table.now) (room_of c.args.met.now (vec_capacity c.args.cells.now)) (walk_state c.args.met.now []) (clause_piece (map literal_of c.args.literals.now)) (1 + literals_size (map literal_of c.args.literals.now)) → ⊥ = λ fits.
     omega (arith, fits.cells, c.in_err-push.ensures.full, ap length c.requires.empty, c.args.cells.now.ok) in
     on_err _ refused
 
@@ -45,6 +45,6 @@ returns-in_err-write_literals-clause-full g c =
     let more = room_of c.args.met.now (vec_capacity c.push.new.self) in
     let no_less : IsNoLess old more = record { cells = c.in_ok-push.ensures.capacity; names = omega arith; symbols = omega arith } in
     let long = ap length c.in_ok-push.ensures.items ∙ length-append c.args.cells.now.items (cell.App 4294967295 0 1 ∷ []) ∙ ap (λ l. length l + 1) c.requires.empty in
-    let refused : Fits pairs old (walk_state c.args.met.now []) (clause_piece ls) (1 + literals_size ls) → ⊥ = λ fits.
+    let refused : FitsRoom pairs old (walk_state c.args.met.now []) (clause_piece ls) (1 + literals_size ls) → ⊥ = λ fits.
     c.in_err-write_literals.ensures.full (fits_atoms pairs old more (walk_state c.args.met.now []) (walk_state c.args.met.now c.push.new.self.items) ls refl refl long no_less fits) in
     on_err _ refused

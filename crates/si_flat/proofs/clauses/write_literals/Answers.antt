@@ -4,7 +4,7 @@ use Rattle.si_term.proofs.Results.{on_err}
 use Rattle.si_defs.specs.Clauses.{literals_size, literal_size}
 use Rattle.si_term.specs.Meaning.{literal_of}
 use Rattle.si_term.proofs.Literals.{later, later-read, later-end}
-use Rattle.si_flat.specs.Flattening.{walk_state, room_of, MayMeet, Flattens, Fits}
+use Rattle.si_flat.specs.Flattening.{walk_state, room_of, MayMeet, Flattens, FitsRoom}
 use Rattle.si_flat.proofs.RoomLaws.{no_less_same, no_less_then}
 use Rattle.si_flat.proofs.ClauseRooms.{fits_literal, fits_literals}
 use Rattle.si_flat.specs.FlatClauses.{clause_scheme, literals_piece}
@@ -36,7 +36,7 @@ loop-i-preserved g c =
       room_left (g.T.SymTable.pairs c.args.table.now) c.args.owner c.args.first c.loop-i.met c.write_term.new.met c.loop-i.cells.items c.write_term.new.cells.items l (literals_size rest) room c.in_ok-write_term.ensures.flat,
       no_less_then (room_of c.args.met.now (vec_capacity c.args.cells.now)) old more c.loop-i.invariant.2 c.in_ok-write_term.ensures.keeps,
       λ fits. fits_literals pairs c.args.owner c.args.first old more here next l rest c.in_ok-write_term.ensures.flat c.in_ok-write_term.ensures.keeps
-          (subst (λ ls. Fits pairs old here (literals_piece ls) (literals_size ls)) split (c.loop-i.invariant.3 fits)),
+          (subst (λ ls. FitsRoom pairs old here (literals_piece ls) (literals_size ls)) split (c.loop-i.invariant.3 fits)),
     )
 
 pub returns-clause-flat : goal.returns-clause-flat
@@ -59,6 +59,6 @@ returns-in_err-write_term-clause-full g c =
     let split = later-read c.args.literals.now c.loop-i.i c.index-literals-i.result c.loop-i-test.true c.index-literals-i.is in
     let here = walk_state c.loop-i.met c.loop-i.cells.items in
     let old = room_of c.loop-i.met (vec_capacity c.loop-i.cells) in
-    let refused : Fits pairs (room_of c.args.met.now (vec_capacity c.args.cells.now)) (walk_state c.args.met.now c.args.cells.now.items) (literals_piece (map literal_of c.args.literals.now)) (literals_size (map literal_of c.args.literals.now)) → ⊥ = λ fits.
-    c.in_err-write_term.ensures.full (fits_literal pairs old here l rest (subst (λ ls. Fits pairs old here (literals_piece ls) (literals_size ls)) split (c.loop-i.invariant.3 fits))) in
+    let refused : FitsRoom pairs (room_of c.args.met.now (vec_capacity c.args.cells.now)) (walk_state c.args.met.now c.args.cells.now.items) (literals_piece (map literal_of c.args.literals.now)) (literals_size (map literal_of c.args.literals.now)) → ⊥ = λ fits.
+    c.in_err-write_term.ensures.full (fits_literal pairs old here l rest (subst (λ ls. FitsRoom pairs old here (literals_piece ls) (literals_size ls)) split (c.loop-i.invariant.3 fits))) in
     on_err _ refused

@@ -5,7 +5,7 @@ use Rattle.si_term.proofs.Rows.{from, from-read, from-end, size-read, app-term}
 use Rattle.si_flat.specs.declared.Cell.TheVariants as cell
 use Rattle.std.specs.Prelude.{vec_capacity}
 use Rattle.si_term.proofs.Results.{on_err}
-use Rattle.si_flat.specs.Flattening.{walk_state, room_of, MayMeet, Flattens, Fits, terms_piece}
+use Rattle.si_flat.specs.Flattening.{walk_state, room_of, MayMeet, Flattens, FitsRoom, terms_piece}
 use Rattle.si_flat.proofs.RoomLaws.{no_less_then, fits_head, fits_rest, symbol_refused}
 use Rattle.si_flat.proofs.Walking.{room_after, room_symbol, flattens_none, flattens_more, flattens_app, length_behind}
 use Rattle.si_flat.proofs.walk.+write.Goals as goal
@@ -71,7 +71,7 @@ write_terms-loop-i-preserved g t c =
       room_after pairs c.args.scheme c.loop-i.met c.write_term.new.met c.loop-i.cells.items c.write_term.new.cells.items (term_of one) (sizes (from ts (i + 1))) room c.in_ok-write_term.ensures.flat,
       no_less_then (room_of c.args.met.now (vec_capacity c.args.cells.now)) old new c.loop-i.invariant.2 c.in_ok-write_term.ensures.keeps,
       λ fits. fits_rest pairs c.args.scheme old new here next (term_of one) (from ts (i + 1)) c.in_ok-write_term.ensures.flat c.in_ok-write_term.ensures.keeps
-          (subst (λ us. Fits pairs old here (terms_piece us) (sizes us)) split (c.loop-i.invariant.3 fits)),
+          (subst (λ us. FitsRoom pairs old here (terms_piece us) (sizes us)) split (c.loop-i.invariant.3 fits)),
     )
 
 pub write_terms-returns-clause-flat : goal.write_terms-returns-clause-flat
@@ -93,6 +93,6 @@ write_terms-returns-in_err-write_term-clause-full g t c =
     let split = from-read ts i one c.loop-i-test.true c.index-terms-i.is in
     let here = walk_state c.loop-i.met c.loop-i.cells.items in
     let old = room_of c.loop-i.met (vec_capacity c.loop-i.cells) in
-    let refused : Fits pairs (room_of c.args.met.now (vec_capacity c.args.cells.now)) (walk_state c.args.met.now c.args.cells.now.items) (terms_piece (row (map term_of ts))) (sizes (row (map term_of ts))) → ⊥ = λ fits.
-    c.in_err-write_term.ensures.full (fits_head pairs old here (term_of one) (from ts (i + 1)) (subst (λ us. Fits pairs old here (terms_piece us) (sizes us)) split (c.loop-i.invariant.3 fits))) in
+    let refused : FitsRoom pairs (room_of c.args.met.now (vec_capacity c.args.cells.now)) (walk_state c.args.met.now c.args.cells.now.items) (terms_piece (row (map term_of ts))) (sizes (row (map term_of ts))) → ⊥ = λ fits.
+    c.in_err-write_term.ensures.full (fits_head pairs old here (term_of one) (from ts (i + 1)) (subst (λ us. FitsRoom pairs old here (terms_piece us) (sizes us)) split (c.loop-i.invariant.3 fits))) in
     on_err _ refused

@@ -4,7 +4,7 @@ use Rattle.si_defs.specs.Terms.{row, size, sizes}
 use Rattle.si_term.specs.Terms.{term_of}
 use Rattle.si_term.proofs.Rows.{from}
 use Rattle.si_flat.specs.Rooms.{IsNoLess}
-use Rattle.si_flat.specs.Flattening.{WalkState, walk_state, room_of, MayMeet, Flattens, Fits, terms_piece}
+use Rattle.si_flat.specs.Flattening.{WalkState, walk_state, room_of, MayMeet, Flattens, FitsRoom, terms_piece}
 use Rattle.si_flat.proofs.walk.+write.Given as goal
 
 -- what follows from here, with what is left, follows from the start
@@ -15,8 +15,8 @@ invariant-write_terms-loop-i g l =
     → Flattens (g.T.SymTable.pairs l.table) l.scheme (walk_state l.fn.met l.fn.cells.items) new (terms_piece (row (map term_of l.terms))))
     × MayMeet l.scheme l.met (sizes (from l.terms l.i))
     × IsNoLess (room_of l.fn.met (vec_capacity l.fn.cells)) (room_of l.met (vec_capacity l.cells))
-    × (Fits (g.T.SymTable.pairs l.table) (room_of l.fn.met (vec_capacity l.fn.cells)) (walk_state l.fn.met l.fn.cells.items) (terms_piece (row (map term_of l.terms))) (sizes (row (map term_of l.terms)))
-    → Fits (g.T.SymTable.pairs l.table) (room_of l.met (vec_capacity l.cells)) (walk_state l.met l.cells.items) (terms_piece (from l.terms l.i)) (sizes (from l.terms l.i)))
+    × (FitsRoom (g.T.SymTable.pairs l.table) (room_of l.fn.met (vec_capacity l.fn.cells)) (walk_state l.fn.met l.fn.cells.items) (terms_piece (row (map term_of l.terms))) (sizes (row (map term_of l.terms)))
+    → FitsRoom (g.T.SymTable.pairs l.table) (room_of l.met (vec_capacity l.cells)) (walk_state l.met l.cells.items) (terms_piece (from l.terms l.i)) (sizes (from l.terms l.i)))
 
 abbrev pub decreases-write_term : goal.decreases-write_term
 decreases-write_term g l = 2 * size (term_of l.term.now)

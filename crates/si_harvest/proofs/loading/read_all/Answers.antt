@@ -3,7 +3,7 @@ use Rattle.si_state.specs.Harvest.{IsBarred}
 use Rattle.si_harvest.specs.Faults.{NamesWhy, bounds_of}
 use Rattle.si_harvest.specs.Gains.{GainsByLoad}
 use Rattle.si_harvest.specs.Opened.{HasFetched}
-use Rattle.si_harvest.specs.Underway.{AreWithin}
+use Rattle.si_harvest.specs.Underway.{AreFilesWithin}
 use Rattle.si_harvest.proofs.Errors.{why_weaker, err_has, reads_fault}
 use Rattle.si_harvest.proofs.Gaining.{gained_nothing, counts_nothing}
 use Rattle.si_harvest.proofs.Fetching.{none_counted, first_fetch, further_fetch}
@@ -46,7 +46,7 @@ loop-reading-init g c =
         underway = begins told bounds (g.T.ClauseStore.rules c.args.store.now) (g.T.ClauseStore.clauses c.args.store.now) c.args.name.now c.new-reading.result c.enter.new.self
             c.new-reading.ensures.files c.new-reading.ensures.fetches c.in_ok-enter.ensures.enters.entered;
         within = within_entered told bounds c.args.name.now (λ names. names ≡ None) c.new-reading.result.files.items c.new-reading.result.fetches c.enter.new.self c.requires.file c.in_ok-enter.ensures.enters.entered
-            (subst AreWithin (sym c.new-reading.ensures.files) tt);
+            (subst AreFilesWithin (sym c.new-reading.ensures.files) tt);
         counted = counts_nothing _ c.args.loaded.now c.requires.nothing;
         gained = gained_nothing _ _ c.args.loaded.now c.requires.nothing;
       };

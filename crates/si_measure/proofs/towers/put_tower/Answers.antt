@@ -1,7 +1,7 @@
 use Rattle.std.proofs.Common.{◌∷◌, [], suc, sym, ◌∙◌, ap, subst, add-one}
 use Rattle.si_flat.specs.Cells.{cells_of}
 use Rattle.si_measure.specs.Rows.{with_argument}
-use Rattle.si_measure.specs.Systems.{Equation, variable, doubled, tower, Adds}
+use Rattle.si_measure.specs.Systems.{Equation, variable, doubled, tower, AddsEquations}
 use Rattle.si_measure.proofs.Adding.{adds_one, adds_then}
 use Rattle.si_measure.proofs.towers.put_tower.Goals as goal
 
@@ -11,7 +11,7 @@ loop-i-preserved c =
     let steps = c.args.steps in
     let i = c.loop-i.i in
     let e : Equation = record { left = variable owner (suc i); right = doubled steps (variable owner i) } in
-    subst (λ n. Adds c.args.sides.now c.add.new.self (tower owner steps n)) (sym (add-one i))
+    subst (λ n. AddsEquations c.args.sides.now c.add.new.self (tower owner steps n)) (sym (add-one i))
     (
     adds_then c.args.sides.now c.loop-i.sides c.add.new.self (tower owner steps i) (e ∷ []) c.loop-i.invariant
     (

@@ -7,7 +7,7 @@ use Rattle.si_term.specs.Walks.{subterms, subterms_of_all}
 use Rattle.si_term.specs.declared.term.Term as program
 use Rattle.si_term.proofs.Rows.{from, size-read, app-term}
 use Rattle.si_index.proofs.EntryLaws.{known_argument, known_arguments, known_sub}
-use Rattle.si_scan.specs.Scans.{Wants, numbers_of, posted, Adds}
+use Rattle.si_scan.specs.Scans.{Wants, numbers_of, posted, AddsWanted}
 use Rattle.si_scan.proofs.ScanLaws.{adds_none, so_far_start, so_far_more, so_far_end, terms_step, terms_count, terms_end, terms_none, application_added, inside_count}
 use Rattle.si_scan.proofs.scan.+scanning.Goals as goal
 
@@ -54,7 +54,7 @@ scan_term-returns-in_default-clause-next t c = omega (arith, ap (λ (u : program
 pub scan_term-returns-in_default-clause-adds : goal.scan_term-returns-in_default-clause-adds
 scan_term-returns-in_default-clause-adds t c =
     let old = c.args.gathered.now.found.items in
-    subst (λ (u : program.Term). Adds (Wants c.args.question.now) (posted c.args.key c.args.number (map term_entry (subterms (term_of u)))) old old) (sym c.in_default.is) (adds_none (Wants c.args.question.now) old)
+    subst (λ (u : program.Term). AddsWanted (Wants c.args.question.now) (posted c.args.key c.args.number (map term_entry (subterms (term_of u)))) old old) (sym c.in_default.is) (adds_none (Wants c.args.question.now) old)
 
 pub scan_term-try_entry-requires-clause-known : goal.scan_term-try_entry-requires-clause-known
 scan_term-try_entry-requires-clause-known t c = known_sub (numbers_of c.args.question.now) (term_of c.args.term.now) c.requires.known

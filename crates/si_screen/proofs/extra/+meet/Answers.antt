@@ -6,7 +6,7 @@ use Rattle.si_defs.specs.Symbols.{same_symbol}
 use Rattle.si_term.specs.Terms.{symbol_of, term_of}
 use Rattle.si_term.proofs.Rows.{from, from-read, from-end, size-read, app-term}
 use Rattle.si_flat.specs.Flattened.{unnumbered}
-use Rattle.si_screen.specs.Walks.{Meets}
+use Rattle.si_screen.specs.Walks.{MeetsSymbols}
 use Rattle.si_screen.proofs.ExtraLaws.{meets_then}
 use Rattle.si_screen.proofs.extra.+meet.Goals as goal
 
@@ -26,7 +26,7 @@ meet_term-returns-in_ok-meet_symbol-in-App g t c =
     let is = app-term c.args.term.now c.in-App.symbol c.in-App.arguments c.as_slice.result.now c.in-App.is c.as_slice.ensures in
     on_ok_weaker c.meet_terms.result
     (λ rest.
-    subst (λ u. Meets pairs (symbols u) c.args.extra.now c.meet_terms.new.extra) (sym is)
+    subst (λ u. MeetsSymbols pairs (symbols u) c.args.extra.now c.meet_terms.new.extra) (sym is)
     (meets_then pairs (symbol_of c.in-App.symbol ∷ []) (symbols_of_all us) c.args.extra.now c.meet_symbol.new.extra c.meet_terms.new.extra c.in_ok-meet_symbol-in-App.ensures rest))
     c.meet_terms.ensures
 
@@ -46,11 +46,11 @@ meet_terms-loop-i-preserved g t c =
     let split = from-read c.args.terms.now c.loop-i.i one c.loop-i-test.true c.index-terms-i.is in
     λ new rest.
     c.loop-i.invariant new
-    (subst (λ us. Meets pairs (symbols_of_all us) c.loop-i.extra new) (sym split)
+    (subst (λ us. MeetsSymbols pairs (symbols_of_all us) c.loop-i.extra new) (sym split)
     (meets_then pairs (symbols (term_of one)) (symbols_of_all left) c.loop-i.extra c.meet_term.new.extra new c.in_ok-meet_term.ensures rest))
 
 pub meet_terms-returns : goal.meet_terms-returns
 meet_terms-returns g t c =
     let pairs = g.T.SymTable.pairs c.args.table.now in
     c.loop-i.invariant c.loop-i.extra
-    (subst (λ us. Meets pairs (symbols_of_all us) c.loop-i.extra c.loop-i.extra) (sym (from-end c.args.terms.now c.loop-i.i c.loop-i-test.false)) refl)
+    (subst (λ us. MeetsSymbols pairs (symbols_of_all us) c.loop-i.extra c.loop-i.extra) (sym (from-end c.args.terms.now c.loop-i.i c.loop-i-test.false)) refl)

@@ -2,7 +2,7 @@ use Rattle.std.proofs.Common.{rules, map, length, arith, ◌<◌, ◌≤◌, ◌
 use Rattle.std.proofs.lemmas.List.{drop_all, length-map}
 use Rattle.si_defs.specs.Entries.{entries, placed_in, state_entries}
 use Rattle.si_term.specs.Meaning.{clause_of, entry_of}
-use Rattle.si_session.specs.Sums.{CountsAnswers}
+use Rattle.si_session.specs.Sums.{CountsEntryAnswers}
 use Rattle.si_session.proofs.Sums.{entry_sound, sums_start, entry_more, entry_fits, sums_end, clause_small}
 use Rattle.si_session.proofs.sample.sum_clause.Goals as goal
 
@@ -29,7 +29,7 @@ loop-number-preserved c =
     let all = state_entries c.args.index.now.clauses in
     let entry = entry_of c.entry_at.result in
     entry_more all (clause_of c.args.clause.now) c.loop-number.number entry c.entry_at.ensures c.loop-number.sum c.from.result
-    c.loop-number.invariant (omega (arith, small, c.from.ensures)) (subst (CountsAnswers all entry) (sym c.from.ensures) c.in_ok-count_answers.ensures)
+    c.loop-number.invariant (omega (arith, small, c.from.ensures)) (subst (CountsEntryAnswers all entry) (sym c.from.ensures) c.in_ok-count_answers.ensures)
 
 pub returns-clause-sums : goal.returns-clause-sums
 returns-clause-sums c =

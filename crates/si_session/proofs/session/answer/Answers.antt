@@ -2,7 +2,7 @@ use Rattle.std.proofs.Common.{ℕ, sym, subst}
 use Rattle.std.specs.List.{AllByRecursion}
 use Rattle.si_defs.specs.Entries.{Placed}
 use Rattle.si_term.specs.Meaning.{pattern_of}
-use Rattle.si_index.specs.Searching.{HasSolution}
+use Rattle.si_index.specs.Searching.{HasCanonicalSolution}
 use Rattle.si_session.specs.declared.stepped.Stepped.TheVariants.{Answered}
 use Rattle.si_session.proofs.Acting.{answers, fails, faults_stand, faults_rise}
 use Rattle.si_index.proofs.StandingLaws.{trees_stand, trees_find}
@@ -23,8 +23,8 @@ report_answer-requires-clause-inside g c =
 pub report_answer-requires-clause-solved : goal.report_answer-requires-clause-solved
 report_answer-requires-clause-solved g c =
     let f = c.in-Ok.found in
-    subst (λ kind. AllByRecursion (λ (hit : ℕ × Placed). HasSolution kind f.pattern hit.1.entry) f.hits) (sym c.in-Ok.ensures.relation)
-    (subst (λ p. AllByRecursion (λ (hit : ℕ × Placed). HasSolution c.args.relation p hit.1.entry) f.hits) (sym c.in-Ok.ensures.pattern) c.in-Ok.ensures.solved)
+    subst (λ kind. AllByRecursion (λ (hit : ℕ × Placed). HasCanonicalSolution kind f.pattern hit.1.entry) f.hits) (sym c.in-Ok.ensures.relation)
+    (subst (λ p. AllByRecursion (λ (hit : ℕ × Placed). HasCanonicalSolution c.args.relation p hit.1.entry) f.hits) (sym c.in-Ok.ensures.pattern) c.in-Ok.ensures.solved)
 
 pub returns-in-Ok-report_answer-clause-acts : goal.returns-in-Ok-report_answer-clause-acts
 returns-in-Ok-report_answer-clause-acts g c =

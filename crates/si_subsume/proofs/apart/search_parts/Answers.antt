@@ -11,7 +11,7 @@ use Rattle.si_flat.specs.Cells.{same_variable}
 use Rattle.si_unify.specs.Solving.{Equalizes}
 use Rattle.si_subsume.specs.declared.search.Choice.{Choice}
 use Rattle.si_subsume.specs.Parts.{select}
-use Rattle.si_subsume.specs.Search.{Slices, IsFlatLiteral, AreFlatLiterals, AnswersSearch, CanEnd, number_of}
+use Rattle.si_subsume.specs.Search.{Slices, IsFlatLiteral, AreFlatLiterals, AnswersSearch, CanEnd, number_from_one}
 use Rattle.si_subsume.proofs.ChainLaws.{next_part}
 use Rattle.si_subsume.proofs.PartLaws.{images_length, part_without_map, all_selected, select_size, least_more}
 use Rattle.si_subsume.proofs.apart.search_parts.Goals as goal
@@ -51,8 +51,8 @@ write-requires-clause-count c =
     let part_is = c.part_at-part.ensures ∙ begins _ _ _ c.part_len-count.result whole (c.part_len-count.ensures ∙ select_size labels c.loop-label.label labels literals (sym c.requires.sizes)) in
     let found = subst (AnswersSearch c.args.task.now.slots c.part_at-part.result.now targets) c.in-Some.is c.in_ok-choices.ensures.answers in
     ap length c.deref.ensures.value
-    ∙ sym (length-map c.in-Some.choices.items number_of)
-    ∙ images_length (λ l k. Equalizes (image same_variable found.least.is_one.0) l.now k.now) targets c.part_at-part.result.now (map number_of c.in-Some.choices.items) found.least.is_one.2
+    ∙ sym (length-map c.in-Some.choices.items number_from_one)
+    ∙ images_length (λ l k. Equalizes (image same_variable found.least.is_one.0) l.now k.now) targets c.part_at-part.result.now (map number_from_one c.in-Some.choices.items) found.least.is_one.2
     ∙ ap length part_is
     ∙ select_size labels c.loop-label.label literals c.loop-label.numbers.items (c.requires.sizes ∙ sym c.loop-label.invariant.4)
 
@@ -93,8 +93,8 @@ loop-label-preserved c =
     let on : length grouped - (c.loop-label.left - count) ≡ length grouped - c.loop-label.left + count = omega (arith, fewer, c.loop-label.invariant.1) in
     let found = subst (AnswersSearch c.args.task.now.slots c.part_at-part.result.now targets) c.in-Some.is c.in_ok-choices.ensures.answers in
     let own : IsLeast (CanEnd c.args.task.now.slots targets [] (select labels c.loop-label.label literals)) (select labels c.loop-label.label c.write.new.numbers.items) =
-    subst (IsLeast (CanEnd c.args.task.now.slots targets [] (select labels c.loop-label.label literals))) (ap (map number_of) (sym c.deref.ensures.value) ∙ sym c.write.ensures.own)
-    (subst (λ bs. IsLeast (CanEnd c.args.task.now.slots targets [] bs) (map number_of c.in-Some.choices.items)) part_is found.least) in (
+    subst (IsLeast (CanEnd c.args.task.now.slots targets [] (select labels c.loop-label.label literals))) (ap (map number_from_one) (sym c.deref.ensures.value) ∙ sym c.write.ensures.own)
+    (subst (λ bs. IsLeast (CanEnd c.args.task.now.slots targets [] bs) (map number_from_one c.in-Some.choices.items)) part_is found.least) in (
       ap (λ n. drop n grouped) on ∙ sym (drop-drop count (length grouped - c.loop-label.left) grouped) ∙ ends _ _ _ count whole (c.part_len-count.ensures ∙ select_size labels c.loop-label.label labels literals (sym c.requires.sizes)),
       omega (arith, c.loop-label.invariant.1),
       c.in_ok-choices.ensures.ready,

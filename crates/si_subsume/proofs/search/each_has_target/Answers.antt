@@ -6,7 +6,7 @@ use Rattle.si_defs.proofs.ListLaws.{all_append, all_get}
 use Rattle.si_flat.specs.declared.Cell.{Cell}
 use Rattle.si_flat.proofs.Subterms.{some_cell}
 use Rattle.si_subsume.specs.Search.{Slices}
-use Rattle.si_subsume.specs.Heads.{slice_head, HasTarget}
+use Rattle.si_subsume.specs.Heads.{slice_head, HasTargetByHead}
 use Rattle.si_subsume.proofs.Unequal.{term_read}
 use Rattle.si_subsume.proofs.HeadLaws.{target_there, no_target}
 use Rattle.si_subsume.proofs.search.each_has_target.Goals as goal
@@ -15,7 +15,7 @@ abbrev none : Bor (List Cell)
 none = record { ref_ptr = (0, 0); now = [] }
 
 abbrev Has : Slices → Bor (List Cell) → Type 0
-Has targets literal = HasTarget targets (slice_head literal)
+Has targets literal = HasTargetByHead targets (slice_head literal)
 
 pub bounds-literal-0 : goal.bounds-literal-0
 bounds-literal-0 c = some_cell _ (term_read c.args.task.now.slots c.args.task.now.literals.now c.loop-i.i none c.requires.searchable.literals c.loop-i-test.true).whole
@@ -25,7 +25,7 @@ loop-i-preserved c =
     let literals = c.args.task.now.literals.now in
     let targets = c.args.task.now.targets.now in
     let literal = get_or literals c.loop-i.i none in
-    let has : HasTarget targets (slice_head literal) = target_there targets (slice_head literal) (λ e. c.if-first-end.false (c.first.ensures ∙ c.requires.searchable.index.first _ ∙ e)) in
+    let has : HasTargetByHead targets (slice_head literal) = target_there targets (slice_head literal) (λ e. c.if-first-end.false (c.first.ensures ∙ c.requires.searchable.index.first _ ∙ e)) in
     subst (AllByRecursion (Has targets)) (sym (take_more literals c.loop-i.i none c.loop-i-test.true))
     (all_append (Has targets) _ _ c.loop-i.invariant (has, tt))
 

@@ -4,7 +4,7 @@ use Rattle.std.specs.Prelude.{vec_capacity}
 use Rattle.si_term.proofs.Results.{on_err}
 use Rattle.si_unify.specs.Solving.{slot_count}
 use Rattle.si_unify.specs.declared.states.State.TheVariants.{Open}
-use Rattle.si_unify.specs.Circles.{visits_of, HasStepped, AreNoMore, VisitsLackRoom}
+use Rattle.si_unify.specs.Circles.{visits_of, HasMadeVisit, AreNoMore, VisitsLackRoom}
 use Rattle.std.proofs.lemmas.List.{reverse-append, length-reverse}
 use Rattle.si_unify.specs.declared.circles.Visit.TheVariants.{Leave}
 use Rattle.si_unify.proofs.VisitLaws.{entered_below, none_more, left_more, opened_more, leave_refused, entries_refused}
@@ -13,7 +13,7 @@ use Rattle.si_unify.proofs.circles.step.Goals as goal
 
 pub returns-in-Leave-clause-done : goal.returns-in-Leave-clause-done
 returns-in-Leave-clause-done c =
-    subst (λ states. HasStepped c.args.slots.now c.args.trail.now.pairs c.args.states.now.items states (c.args.visit ∷ reverse c.args.visits.now.items) (reverse c.args.visits.now.items))
+    subst (λ states. HasMadeVisit c.args.slots.now c.args.trail.now.pairs c.args.states.now.items states (c.args.visit ∷ reverse c.args.visits.now.items) (reverse c.args.visits.now.items))
     (sym c.change.ensures.items)
     (left_told _ _ _ _ _ _ c.in-Leave.is c.requires)
 
@@ -27,7 +27,7 @@ returns-in-Open-clause-done c =
 pub returns-in_ok-enter_all-in-New-clause-done : goal.returns-in_ok-enter_all-in-New-clause-done
 returns-in_ok-enter_all-in-New-clause-done c =
     let few = c.enter_all.new.visits.small in
-    subst (λ states. HasStepped c.args.slots.now c.args.trail.now.pairs c.args.states.now.items states (c.args.visit ∷ reverse c.args.visits.now.items) (reverse c.enter_all.new.visits.items))
+    subst (λ states. HasMadeVisit c.args.slots.now c.args.trail.now.pairs c.args.states.now.items states (c.args.visit ∷ reverse c.args.visits.now.items) (reverse c.enter_all.new.visits.items))
     (sym c.change-in-New.ensures.items)
     (
     open_told _ _ _ _ _ _ _ c.in-Enter.is c.requires c.in-New.ensures

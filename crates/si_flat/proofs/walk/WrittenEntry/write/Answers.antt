@@ -9,7 +9,7 @@ use Rattle.si_flat.specs.Rooms.{IsNoLess}
 use Rattle.si_flat.specs.declared.walk.WrittenEntry.{WrittenEntry}
 use Rattle.si_defs.specs.Entries.{whole_of}
 use Rattle.si_flat.specs.Flattened.{IsEnoughFor}
-use Rattle.si_flat.specs.Flattening.{room_of, walk_state, term_piece, Fits}
+use Rattle.si_flat.specs.Flattening.{room_of, walk_state, term_piece, FitsRoom}
 use Rattle.si_flat.proofs.EntryRooms.{enough_fits, written_is_enough, entry_walked}
 use Rattle.si_flat.proofs.walk.WrittenEntry.write.Goals as goal
 
@@ -50,10 +50,10 @@ returns-clause-full g c =
       symbols = c.clear.ensures.keeps.symbols;
     } in
     let none : c.reserve.new.self.items ≡ [] = c.in_ok-reserve.ensures.items ∙ c.clear.ensures.cells in
-    let fits : IsEnoughFor pairs e old → Fits pairs more start (term_piece (term_of c.whole.result.now)) (size (term_of c.whole.result.now)) = λ enough.
-    subst (λ t. Fits pairs more start (term_piece t) (size t)) (sym c.whole.ensures)
+    let fits : IsEnoughFor pairs e old → FitsRoom pairs more start (term_piece (term_of c.whole.result.now)) (size (term_of c.whole.result.now)) = λ enough.
+    subst (λ t. FitsRoom pairs more start (term_piece t) (size t)) (sym c.whole.ensures)
     (enough_fits pairs e old more start c.clear.ensures.names c.clear.ensures.extra none no_less enough) in
-    let weaker : (Fits pairs more start (term_piece (term_of c.whole.result.now)) (size (term_of c.whole.result.now)) → ⊥) → (IsEnoughFor pairs e old → ⊥) = λ refused enough. refused (fits enough) in
+    let weaker : (FitsRoom pairs more start (term_piece (term_of c.whole.result.now)) (size (term_of c.whole.result.now)) → ⊥) → (IsEnoughFor pairs e old → ⊥) = λ refused enough. refused (fits enough) in
     on_err_weaker _ weaker c.write_term.ensures.full
 
 pub returns-clause-enough : goal.returns-clause-enough

@@ -5,7 +5,7 @@ use Rattle.si_state.specs.States.{Rules}
 use Rattle.si_state.specs.Harvest.{MayAsk, IsBarred, IsWithheld}
 use Rattle.si_harvest.specs.declared.faults.HarvestFault.{HarvestFault}
 use Rattle.si_harvest.specs.Faults.{NamesWhy, bounds_of}
-use Rattle.si_harvest.specs.Opened.{opened, IsUnopened, HasOpened}
+use Rattle.si_harvest.specs.Opened.{opened_names, IsUnopened, HasOpened}
 use Rattle.si_io.proofs.Fetching.{same_files}
 use Rattle.si_harvest.proofs.Errors.{why_weaker, err_again, cause_again}
 use Rattle.si_harvest.proofs.reading.Reading.enter.Goals as goal
@@ -18,7 +18,7 @@ returns-in_err-may_ask-clause-enters g c =
     record {
       entered = search rules;
       unopened = err_again c.from_residual.result c.in_err-may_ask.field-0.0 P c.from_residual.ensures.1
-          (λ rules. why_weaker rules c.in_err-may_ask.field-0.0 _ _ (λ fault h. inl (subst (λ fs. IsBarred bounds (opened fs) c.args.self.now.fetches c.args.name.now fault) c.as_slice.ensures.value h, refl)) (c.in_err-may_ask.ensures.barred rules));
+          (λ rules. why_weaker rules c.in_err-may_ask.field-0.0 _ _ (λ fault h. inl (subst (λ fs. IsBarred bounds (opened_names fs) c.args.self.now.fetches c.args.name.now fault) c.as_slice.ensures.value h, refl)) (c.in_err-may_ask.ensures.barred rules));
       once = inl refl;
     }
 
@@ -33,7 +33,7 @@ returns-in_err-file-clause-enters g c =
     let told = (g.L.Library.shown c.args.library.now).files in
     let bounds = bounds_of c.args.limits.now in
     let P : HarvestFault → Type 0 = λ e. (rules : Rules) → NamesWhy rules e (IsUnopened told bounds c.args.name.now c.args.self.now.files.items c.args.self.now.fetches (c.args.self.now.fetches + 1)) in
-    let may : MayAsk bounds (opened c.args.self.now.files.items) c.args.self.now.fetches c.args.name.now = subst (λ fs. MayAsk bounds (opened fs) c.args.self.now.fetches c.args.name.now) c.as_slice.ensures.value c.in_ok-may_ask.ensures.may in
+    let may : MayAsk bounds (opened_names c.args.self.now.files.items) c.args.self.now.fetches c.args.name.now = subst (λ fs. MayAsk bounds (opened_names fs) c.args.self.now.fetches c.args.name.now) c.as_slice.ensures.value c.in_ok-may_ask.ensures.may in
     record {
       entered = search rules;
       unopened = err_again c.from_residual-in_err-file.result c.in_err-file.field-0.0 P c.from_residual-in_err-file.ensures.1
@@ -43,7 +43,7 @@ returns-in_err-file-clause-enters g c =
 
 pub returns-clause-enters : goal.returns-clause-enters
 returns-clause-enters g c =
-    let may : MayAsk (bounds_of c.args.limits.now) (opened c.args.self.now.files.items) c.args.self.now.fetches c.args.name.now = subst (λ fs. MayAsk (bounds_of c.args.limits.now) (opened fs) c.args.self.now.fetches c.args.name.now) c.as_slice.ensures.value c.in_ok-may_ask.ensures.may in
+    let may : MayAsk (bounds_of c.args.limits.now) (opened_names c.args.self.now.files.items) c.args.self.now.fetches c.args.name.now = subst (λ fs. MayAsk (bounds_of c.args.limits.now) (opened_names fs) c.args.self.now.fetches c.args.name.now) c.as_slice.ensures.value c.in_ok-may_ask.ensures.may in
     record {
       entered = record {
         may = may;

@@ -12,7 +12,7 @@ use Rattle.si_sign.specs.Stores.{Rejects}
 use Rattle.si_index.specs.Kept.{Kept, KeysStay, NumbersStay, clauses_of}
 use Rattle.si_index.specs.Register.{Uncounts}
 use Rattle.si_index.specs.Names.{key_of_name}
-use Rattle.si_index.specs.Stored.{IsKept, AreHeld, HaveRows, keyed_clauses}
+use Rattle.si_index.specs.Stored.{IsKeptIndex, AreHeld, HaveRows, keyed_clauses}
 use Rattle.si_index.proofs.KeyStays.{kept_as, keys_same, no_trees}
 use Rattle.si_index.proofs.RegisterLaws.{room_for, counted_few, rejects, kept_stays, kept_more, register_with, keys_more, accepts_more, entered_back, uncounted_as, numbers_through}
 use Rattle.si_index.proofs.HeldClauses.{entered_held, entered_numbers, uncounted_held, stays_held, trees_hold}
@@ -65,7 +65,7 @@ returns-in-Err-clause-rejected c =
 
 pub invariant_of-self-in-Ok-keep : goal.invariant_of-self-in-Ok-keep
 invariant_of-self-in-Ok-keep c = (
-  subst (IsKept (limited_to c.self.inside.limit) c.keep.new.clauses.items) (register_with c.keep.new.register c.enter.new.self c.keep.ensures.signature c.keep.ensures.entries)
+  subst (IsKeptIndex (limited_to c.self.inside.limit) c.keep.new.clauses.items) (register_with c.keep.new.register c.enter.new.self c.keep.ensures.signature c.keep.ensures.entries)
       (kept_more (limited_to c.self.inside.limit) c.self.inside.register c.enter.new.self c.self.inside.clauses.items c.keep.new.clauses.items c.args.clause c.keep.new.register.names
       c.self.invariant.0.registered.signature c.self.invariant.0 c.requires.sound c.in-Ok.ensures.admits c.in-Ok.ensures.enters c.in-Ok-keep.ensures.put),
   c.keep.ensures.held,
@@ -101,7 +101,7 @@ invariant_of-self-in-Err-keep c =
     let enters = c.in-Ok.ensures.enters in
     let undone = uncounted_as (clause_of c.args.clause) between c.keep.new.register new c.keep.ensures.signature c.keep.ensures.entries
     (subst (λ (d : Clause). Uncounts (clause_of d) c.keep.new.register new) c.in-Err-keep.ensures.handed_back c.uncount.ensures.uncounts) in (
-      subst (λ l. IsKept (limited_to c.self.inside.limit) l new) (sym c.in-Err-keep.ensures.err)
+      subst (λ l. IsKeptIndex (limited_to c.self.inside.limit) l new) (sym c.in-Err-keep.ensures.err)
           (kept_stays (limited_to c.self.inside.limit) register new items c.self.invariant.0
           (entered_back items register between new (clause_of c.args.clause) c.self.invariant.0.registered.signature enters
           (λ name. ap (λ m. key_of_name items m name) c.uncount.ensures.names ∙ c.in-Err-keep.ensures.same_names name)

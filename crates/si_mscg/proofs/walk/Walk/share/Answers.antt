@@ -2,12 +2,12 @@ use Rattle.std.proofs.Common.{◌≡◌, ◌++◌, List, [], ◌∷◌, ap, sym,
 use Rattle.si_flat.specs.declared.Cell.{Cell}
 use Rattle.si_flat.specs.declared.Cell.TheVariants as cell
 use Rattle.si_legal.specs.Pieces.{piece}
-use Rattle.si_mscg.specs.Walking.{State, state_of, with_piece, BeginsWithTerm}
+use Rattle.si_mscg.specs.Walking.{PartsSoFar, state_of, with_piece, BeginsWithTerm}
 use Rattle.si_mscg.proofs.WalkLaws.{Left, Turn, turn, all_left, none_left, kept_turn, cut_turn, same_turn, new_some, node_begins, new_begins, kept_unbound, may_cut, shorter}
 use Rattle.si_mscg.proofs.walk.Walk.share.Goals as goal
 
 -- the first terms of what is left
-first_of : (node new rest : List Cell) (c : Cell) (s end : State) → node ≡ c ∷ rest → Left node new s end → Turn c rest new s end
+first_of : (node new rest : List Cell) (c : Cell) (s end : PartsSoFar) → node ≡ c ∷ rest → Left node new s end → Turn c rest new s end
 first_of node new rest c s end e l = turn c rest new s end (subst (λ n. Left n new s end) e l)
 
 pub loop-cell-init : goal.loop-cell-init

@@ -7,7 +7,7 @@ use Rattle.si_changes.specs.Splits.{MaySplitNode}
 use Rattle.si_tree.specs.declared.tree.Tree.TheInside.{Inside}
 use Rattle.si_tree.specs.Decoding.{bindings_of}
 use Rattle.si_tree.specs.Changes.{parts_of, HasSplitLeaf}
-use Rattle.si_tree.specs.KeptNodes.{tree_of, slot_of, IsLeafWith}
+use Rattle.si_tree.specs.KeptNodes.{tree_of, node_in_slot, IsLeafWith}
 use Rattle.si_tree.specs.Rights.{beyond_rights}
 use Rattle.si_legal.specs.Generalizations.{fresh_among}
 use Rattle.si_tree.proofs.RightLaws.{head_found, head_told, lefts_read}
@@ -76,7 +76,7 @@ put_between-added-requires c =
 pub prove-unreachable-requires : goal.prove-unreachable-requires
 prove-unreachable-requires c =
     let nodes = c.reserve_nodes.new.nodes in
-    let more = fewer_leaves c.self.inside nodes (slab_len nodes + 1) c.self.invariant (ap (λ s. map slot_of s.slots) c.reserve_nodes.ensures.rest_kept) refl in
+    let more = fewer_leaves c.self.inside nodes (slab_len nodes + 1) c.self.invariant (ap (λ s. map node_in_slot s.slots) c.reserve_nodes.ensures.rest_kept) refl in
     absurd (omega (arith, more, c.if-prove.true, c.len-nodes.ensures, c.put_between-added.ensures.number))
 
 -- ---- at the end

@@ -1,6 +1,6 @@
 use Rattle.std.proofs.Common.{◌≡◌, append-nil, ap, sym, ◌∙◌, subst, arith}
 use Rattle.std.specs.Prelude.{min, vec_capacity}
-use Rattle.si_unify.specs.States.{AreMet, HasRoomFor}
+use Rattle.si_unify.specs.States.{AreMet, HasRoomForSlots}
 use Rattle.si_unify.proofs.StateLaws.{met_popped, popped_inside, none_met, room_after_pop}
 use Rattle.si_unify.proofs.states.States.reset.Goals as goal
 
@@ -11,7 +11,7 @@ pub loop-slot-preserved : goal.loop-slot-preserved
 loop-slot-preserved c = record {
   met = met_popped _ _ _ _ c.in-Some.ensures.items c.loop-slot.invariant.met;
   room =
-      subst (HasRoomFor _ _) (sym c.pop.ensures.capacity)
+      subst (HasRoomForSlots _ _) (sym c.pop.ensures.capacity)
       (room_after_pop _ _ _ _ _ c.in-Some.ensures.items c.loop-slot.invariant.room (popped_inside _ _ _ _ c.in-Some.ensures.items c.loop-slot.invariant.met));
   same = ap (min (vec_capacity c.loop-slot.self-inside.states)) c.pop.ensures.capacity ∙ c.loop-slot.invariant.same;
 }
@@ -23,6 +23,6 @@ pub invariant_of-self : goal.invariant_of-self
 invariant_of-self c =
     let same : c.pop.new.self.items ≡ c.loop-slot.self-inside.met.items = sym (c.in_default.ensures.items ∙ append-nil c.pop.new.self.items) in (
       subst (AreMet c.loop-slot.self-inside.states.items) (sym same) c.loop-slot.invariant.met,
-      subst (λ l. HasRoomFor c.loop-slot.self-inside.states.items l (vec_capacity c.pop.new.self)) (sym same)
-          (subst (HasRoomFor c.loop-slot.self-inside.states.items c.loop-slot.self-inside.met.items) (sym c.pop.ensures.capacity) c.loop-slot.invariant.room),
+      subst (λ l. HasRoomForSlots c.loop-slot.self-inside.states.items l (vec_capacity c.pop.new.self)) (sym same)
+          (subst (HasRoomForSlots c.loop-slot.self-inside.states.items c.loop-slot.self-inside.met.items) (sym c.pop.ensures.capacity) c.loop-slot.invariant.room),
     )

@@ -6,7 +6,7 @@ use Rattle.si_unify.specs.Solving.{slot_count, IsAcyclic, IsBinding}
 use Rattle.std.specs.List.{AllByRecursion}
 use Rattle.si_unify.specs.Circles.{SaysTriangular}
 use Rattle.si_unify.specs.Spots.{left_spot, right_spot}
-use Rattle.si_unify.specs.Unifying.{HasRoom, MakesMeet, MakesClosed}
+use Rattle.si_unify.specs.Unifying.{HasRoomToUnify, MakesMeet, MakesClosed}
 use Rattle.si_unify.proofs.Comparing.{grows_on}
 use Rattle.si_unify.proofs.Answering.{front_of, front_within, answered, answered_unclosed, answered_unmet}
 use Rattle.si_unify.proofs.Underway.{goes_further, underway_still, room_still, closed_by}
@@ -118,7 +118,7 @@ returns-clause-keeps_question c = goes_further _ _ _ c.in_ok-meet_terms.ensures.
 
 pub returns-in_err-meet_terms-clause-full : goal.returns-in_err-meet_terms-clause-full
 returns-in_err-meet_terms-clause-full c =
-    let refused : (n : ℕ) → HasRoom n c.args.self.now → slot_count c.args.self.now.question.slots ≤ c.args.states.now.room → slot_count c.args.self.now.question.slots * (n + 2) ≤ vec_capacity c.args.visits.now → ⊥ = λ n room states visits. c.in_err-meet_terms.ensures.full n room in
+    let refused : (n : ℕ) → HasRoomToUnify n c.args.self.now → slot_count c.args.self.now.question.slots ≤ c.args.states.now.room → slot_count c.args.self.now.question.slots * (n + 2) ≤ vec_capacity c.args.visits.now → ⊥ = λ n room states visits. c.in_err-meet_terms.ensures.full n room in
     on_err _ refused
 
 pub returns-in_err-close-clause-full : goal.returns-in_err-close-clause-full
@@ -128,7 +128,7 @@ returns-in_err-close-clause-full c =
     (MakesMeet c.args.self.now c.meet_terms.new.self (left_spot c.args.self.now.question) (right_spot c.args.self.now.question))
     c.if-not-branch.false
     c.in_ok-meet_terms.ensures.met in
-    let refused : (n : ℕ) → HasRoom n c.args.self.now → slot_count c.args.self.now.question.slots ≤ c.args.states.now.room → slot_count c.args.self.now.question.slots * (n + 2) ≤ vec_capacity c.args.visits.now → ⊥ =
+    let refused : (n : ℕ) → HasRoomToUnify n c.args.self.now → slot_count c.args.self.now.question.slots ≤ c.args.states.now.room → slot_count c.args.self.now.question.slots * (n + 2) ≤ vec_capacity c.args.visits.now → ⊥ =
     λ n room states visits. c.in_err-close.ensures.full n (room_still c.args.self.now c.meet_terms.new.self c.in_ok-meet_terms.ensures.keeps_question n room met.0) in
     on_err _ refused
 

@@ -33,7 +33,7 @@ use Rattle.si_descend.specs.declared.heads.Wanted.{Wanted}
 use Rattle.si_descend.specs.declared.search.Search.{Search}
 use Rattle.si_descend.specs.Attempts.{head_at, wanted_of, place_count, HasHeadBelow, AreHeadsFor, HasPlaces, IsTried, IsTriedBefore, AreAttempts}
 use Rattle.si_descend.specs.declared.pending.Pending.{Pending}
-use Rattle.si_descend.specs.Pending.{IsDue, LeavesDue, Marks, marks_of, with_marks, pending_at}
+use Rattle.si_descend.specs.Pending.{IsDue, PutsDue, Marks, marks_of, with_marks, pending_at}
 use Rattle.si_descend.specs.Heads.{SplitsBy, IsWanted, RulesOut}
 use Rattle.si_descend.specs.Searching.{IsReady, IsAtNode, IsClosedAt}
 use Rattle.si_descend.proofs.ExactLists.{distinct_both, no_more}
@@ -239,7 +239,7 @@ module _ (search : Search) (ready : IsReady search) (key : ℕ) (node : Node Ter
             length_at marks tried,
           )
 
-      pub leaves_tried : (trail : Trail (Bor (List Cell))) (taken : Trail ⊤) → marks ≡ marks_of (pending_at key trail taken) → IsAtNode search key trail taken → IsWanted search key trail.pairs (wanted_of a) → (place : ℕ) (new : List Pending) → place_count a ≤ place → IsUnderway search key a place (λ tried. new ≡ old ++ with_marks marks tried) → LeavesDue search (pending_at key trail taken) trail taken old new
+      pub leaves_tried : (trail : Trail (Bor (List Cell))) (taken : Trail ⊤) → marks ≡ marks_of (pending_at key trail taken) → IsAtNode search key trail taken → IsWanted search key trail.pairs (wanted_of a) → (place : ℕ) (new : List Pending) → place_count a ≤ place → IsUnderway search key a place (λ tried. new ≡ old ++ with_marks marks tried) → PutsDue search (pending_at key trail taken) trail taken old new
       leaves_tried trail taken e at wanted place new through (tried, were, pushed) = record {
         tops = tried;
         marks = marks_of (pending_at key trail taken);

@@ -34,7 +34,8 @@ use Rattle.si_fit.proofs.EndLaws.{value_same}
 use Rattle.si_descend.specs.declared.heads.Wanted.{Wanted}
 use Rattle.si_descend.specs.declared.search.Search.{Search}
 use Rattle.si_descend.specs.Descending.{Renames}
-use Rattle.si_descend.specs.Heads.{first_cell_of, KeepsVariables, CannotMeet, CannotHave, SplitsBy, IsSplitOf, IsWanted, IsUnwanted, RulesOut}
+use Rattle.si_fit.specs.Meeting.{first_cell_of}
+use Rattle.si_descend.specs.Heads.{KeepsVariables, CannotMeet, CannotHave, SplitsBy, IsSplitOf, IsWanted, IsUnwanted, RulesOut}
 use Rattle.si_descend.specs.Searching.{IsReady, HasComeTo, IsClosedAt}
 use Rattle.si_descend.proofs.Below.{IsChildOf}
 use Rattle.si_descend.proofs.Along.{is_step}

@@ -10,7 +10,8 @@ use Rattle.si_unify.specs.declared.slots.Slots.{Slots}
 use Rattle.si_tree.specs.declared.node.Head.{Head}
 use Rattle.si_tree.specs.declared.node.Head.TheVariants.{Sym, Var}
 use Rattle.si_tree.specs.Rights.{cell_head}
-use Rattle.si_descend.specs.Heads.{first_cell_of, CannotMeet, KeepsVariables}
+use Rattle.si_fit.specs.Meeting.{first_cell_of}
+use Rattle.si_descend.specs.Heads.{CannotMeet, KeepsVariables}
 use Rattle.si_descend.specs.Attempts.{head_at, HasHeadBelow, IsPlaceOf, AreHeadsFor}
 use Rattle.si_descend.proofs.HeadLaws.{symbols_apart, symbol_entry, entry_symbol, query_symbol, entries_apart}
 

@@ -19,7 +19,7 @@ use Rattle.si_unify.proofs.Solutions.{lt_tells, entry_slot, same_number}
 use Rattle.si_legal.specs.OpenNodes.{RenamesEntry}
 use Rattle.si_descend.specs.declared.variants.Became.TheVariants.{NoEntry, Variable as Same, Term as Other}
 use Rattle.si_fit.specs.Ends.{EndsAt}
-use Rattle.si_descend.specs.Renaming.{FreezesQuery, bound_variables, IsRenamingFirst, IsRenaming, BindsEntry, HasBecome, IsTakenBefore, AreTaken, Takes}
+use Rattle.si_descend.specs.Renaming.{FreezesQuery, bound_variables, IsRenamingFirst, IsRenaming, BindsEntry, HasBecome, IsTakenBefore, AreTaken, TakesVariable}
 use Rattle.si_fit.proofs.EndLaws.{no_cell, value_same}
 use Rattle.si_descend.proofs.FreeLaws.{value_at-last, value_at-others, is_free, some_solution}
 
@@ -245,7 +245,7 @@ module _ (slots : Slots) (pairs : Pairs) (count : ℕ) (frozen : FreezesQuery sl
       pub none_more_taken : (taken : List (ℕ × T)) → HasBecome slots pairs n NoEntry → AreTaken slots pairs n taken → AreTaken slots pairs (n + 1) taken
       none_more_taken taken none t k = more_unless (is_some (value_at taken k)) k (λ m b s is e. none m b) (t k)
 
-      pub one_more_taken : (q : ℕ) (old new : List (ℕ × T)) (free : Bool) → HasBecome slots pairs n (Same q) → AreTaken slots pairs n old → free ≡ is_none (value_at old q) → Takes old q new free → IsTrue free → AreTaken slots pairs (n + 1) new
+      pub one_more_taken : (q : ℕ) (old new : List (ℕ × T)) (free : Bool) → HasBecome slots pairs n (Same q) → AreTaken slots pairs n old → free ≡ is_none (value_at old q) → TakesVariable old q new free → IsTrue free → AreTaken slots pairs (n + 1) new
       one_more_taken q old new true became t free (x, new_is) told k =
           subst (λ l. IsTakenBefore slots pairs (n + 1) k (is_some (value_at l k))) (sym new_is)
           (elim (eqb_tells k q) as (λ _. IsTakenBefore slots pairs (n + 1) k (is_some (value_at (old ++ (q, x) ∷ []) k))) [ inl e ↦ here e.1 | inr d ↦ else d.1 ])
@@ -291,7 +291,7 @@ module _ (slots : Slots) (pairs : Pairs) (count : ℕ) (frozen : FreezesQuery sl
       })
 
 -- ---- what is taken
-pub takes_grows : {T : Type 0} (old : List (ℕ × T)) (k : ℕ) (new : List (ℕ × T)) (b : Bool) → Takes old k new b → Grows old new
+pub takes_grows : {T : Type 0} (old : List (ℕ × T)) (k : ℕ) (new : List (ℕ × T)) (b : Bool) → TakesVariable old k new b → Grows old new
 takes_grows old k new true (x, e) = ((k, x) ∷ [], e)
 takes_grows old k new false e = ([], e ∙ sym (append-nil old))
 

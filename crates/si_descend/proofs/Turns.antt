@@ -19,7 +19,7 @@ use Rattle.si_tree.specs.Reading.{IsNode, children_of, postings_of}
 use Rattle.si_descend.specs.declared.pending.Pending.{Pending}
 use Rattle.si_descend.specs.declared.search.Search.{Search}
 use Rattle.si_descend.specs.Lending.{HasRoomForAnswers}
-use Rattle.si_descend.specs.Pending.{ArePending, cut_back, HasTurned, IsDue, IsNextOpen, LeavesDue, MayVisit, HasStepped, marks_of, pending_at}
+use Rattle.si_descend.specs.Pending.{ArePending, cut_back, HasTurned, IsDue, IsNextOpen, PutsDue, MayVisit, HasStepped, marks_of, pending_at}
 use Rattle.si_descend.specs.Searching.{IsReady, IsClosedAt, IsOpenAt, HasFound}
 use Rattle.si_descend.proofs.Passing.{HasPassed, passing_starts, passing_over, passed_few, next_new, apart_few}
 use Rattle.si_descend.proofs.Gathering.{HasGathered, none_in, gathered_none, gathered_more, found_in_end, gathered_fits}
@@ -171,7 +171,7 @@ module _ (search : Search) (base : Pairs) (first : List (ℕ × ⊤)) (old new :
     waiting_over same =
         waiting_on search base first old new before after front next mine (marks_of next) [] (subst (ArePending search base first old before) are h) e f more taken_more (omega arith) (omega arith) (same ∙ sym (append-nil front)) tt
 
-    pub waiting_more : LeavesDue search next new after front mine → ArePending search base first new after mine
+    pub waiting_more : PutsDue search next new after front mine → ArePending search base first new after mine
     waiting_more leaves =
         waiting_on search base first old new before after front next mine leaves.marks leaves.tops (subst (ArePending search base first old before) are h) e f more taken_more leaves.mark leaves.taken_mark leaves.pushed leaves.due
 

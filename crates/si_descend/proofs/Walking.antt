@@ -12,7 +12,7 @@ use Rattle.si_legal.proofs.PathLaws.{one_node}
 use Rattle.si_tree.specs.Reading.{children_of, split_of}
 use Rattle.si_descend.specs.declared.pending.Pending.{Pending}
 use Rattle.si_descend.specs.declared.search.Search.{Search}
-use Rattle.si_descend.specs.Pending.{cut_back, IsDue, LeavesDue, Marks, MayVisit, marks_of, with_marks, pending_at}
+use Rattle.si_descend.specs.Pending.{cut_back, IsDue, PutsDue, Marks, MayVisit, marks_of, with_marks, pending_at}
 use Rattle.si_descend.specs.Searching.{IsReady, IsOpenAt, AreOpenBelow}
 use Rattle.si_descend.proofs.Below.{IsChildOf, child_passes, passes_first}
 use Rattle.si_descend.proofs.PendingLaws.{all_at_once}
@@ -37,7 +37,7 @@ child_at search ready key node has children are place child e = (siblings search
 
 module _ (search : Search) (ready : IsReady search) (next : Pending) (node : Node Term) (has : HasNode search.tree.now next.node node) (trail : Trail (Bor (List Cell))) (taken : Trail ⊤) (old new : List Pending) where
   -- all children are left
-  pub leaves_all : AreOpenBelow search next.node → (marks : Marks) → next.mark ≤ marks.mark → next.taken_mark ≤ marks.taken_mark → marks.mark ≤ length trail.pairs → marks.taken_mark ≤ length taken.pairs → marks.whole ≡ true → new ≡ old ++ with_marks marks (children_of node.content) → LeavesDue search next trail taken old new
+  pub leaves_all : AreOpenBelow search next.node → (marks : Marks) → next.mark ≤ marks.mark → next.taken_mark ≤ marks.taken_mark → marks.mark ≤ length trail.pairs → marks.taken_mark ≤ length taken.pairs → marks.whole ≡ true → new ≡ old ++ with_marks marks (children_of node.content) → PutsDue search next trail taken old new
   leaves_all all marks above taken_above within taken_within whole pushed = record {
     tops = children_of node.content;
     marks = marks;
@@ -57,7 +57,7 @@ module _ (search : Search) (ready : IsReady search) (next : Pending) (node : Nod
   }
 
   -- a leaf leaves none
-  pub leaves_none : split_of node.content ≡ None → new ≡ old → LeavesDue search next trail taken old new
+  pub leaves_none : split_of node.content ≡ None → new ≡ old → PutsDue search next trail taken old new
   leaves_none bare same = record {
     tops = [];
     marks = marks_of next;
@@ -73,7 +73,7 @@ module _ (search : Search) (ready : IsReady search) (next : Pending) (node : Nod
   }
 
 -- after the bindings of a node, those above it are there still
-pub leaves_later : (search : Search) (next : Pending) (trail : Trail (Bor (List Cell))) (taken : Trail ⊤) (old new : List Pending) → next.mark ≤ length trail.pairs → next.taken_mark ≤ length taken.pairs → LeavesDue search (pending_at next.node trail taken) trail taken old new → LeavesDue search next trail taken old new
+pub leaves_later : (search : Search) (next : Pending) (trail : Trail (Bor (List Cell))) (taken : Trail ⊤) (old new : List Pending) → next.mark ≤ length trail.pairs → next.taken_mark ≤ length taken.pairs → PutsDue search (pending_at next.node trail taken) trail taken old new → PutsDue search next trail taken old new
 leaves_later search next trail taken old new less taken_less leaves = record {
   tops = leaves.tops;
   marks = leaves.marks;

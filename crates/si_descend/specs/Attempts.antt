@@ -16,7 +16,8 @@ use Rattle.si_descend.specs.declared.attempts.Attempts.{Attempts}
 use Rattle.si_descend.specs.declared.attempts.Attempts.TheVariants.{InOrder, ByHeads}
 use Rattle.si_descend.specs.declared.heads.Wanted.{Wanted}
 use Rattle.si_descend.specs.declared.search.Search.{Search}
-use Rattle.si_descend.specs.Heads.{first_cell_of, CannotMeet, RulesOut, SplitsBy}
+use Rattle.si_fit.specs.Meeting.{first_cell_of}
+use Rattle.si_descend.specs.Heads.{CannotMeet, RulesOut, SplitsBy}
 
 -- ---- heads at places
 -- first that of a term which begins with this cell, if it has one, and then each variable of an

@@ -14,11 +14,8 @@ use Rattle.si_tree.specs.Reading.{AtNode, split_of}
 use Rattle.si_legal.specs.Legal.{ChildBinds}
 use Rattle.si_descend.specs.declared.heads.Wanted.{Wanted}
 use Rattle.si_descend.specs.declared.search.Search.{Search}
-use Rattle.si_fit.specs.Meeting.{LeavesFrozen}
+use Rattle.si_fit.specs.Meeting.{first_cell_of, LeavesFrozen}
 use Rattle.si_descend.specs.Descending.{Renames}
-
-abbrev pub first_cell_of : List Cell → Cell
-first_cell_of cells = get_or cells 0 (cell.App 0 0 0)
 
 -- no variable of an entry can become a term that begins with a symbol
 abbrev pub KeepsVariables : Relation → Slots → Type 0

@@ -63,7 +63,7 @@ with_marks m tops = map (λ key.
 
 -- those are put after the nodes that were pending, with marks that are no less than those of the
 -- node
-pub record LeavesDue (search : Search) (next : Pending) (trail : Trail (Bor (List Cell)))
+pub record PutsDue (search : Search) (next : Pending) (trail : Trail (Bor (List Cell)))
     (taken : Trail ⊤) (old new : List Pending) : Type 0 where
   pub tops : List ℕ
   pub marks : Marks
@@ -78,7 +78,7 @@ pub record LeavesDue (search : Search) (next : Pending) (trail : Trail (Bor (Lis
 abbrev pub HasStepped : Search → Pending → Trail (Bor (List Cell)) → Trail ⊤ → List Pending
     → List Pending → Bool → Type 0
 HasStepped search next trail taken old new true =
-    IsOpenAt search next.node × LeavesDue search next trail taken old new
+    IsOpenAt search next.node × PutsDue search next trail taken old new
 HasStepped search next trail taken old new false = IsClosedAt search next.node × (new ≡ old)
 
 -- ---- nodes that wait

@@ -75,6 +75,6 @@ module _ {T : Type 0} where
       (k : ℕ) → IsTakenBefore slots pairs end k (is_some (value_at taken k))
 
   -- `true`: this slot is bound too. `false`: nothing changes.
-  abbrev pub Takes : List (ℕ × T) → ℕ → List (ℕ × T) → Bool → Type 0
-  Takes old k new true = (x : T) × (new ≡ old ++ (k, x) ∷ [])
-  Takes old k new false = new ≡ old
+  abbrev pub TakesVariable : List (ℕ × T) → ℕ → List (ℕ × T) → Bool → Type 0
+  TakesVariable old k new true = (x : T) × (new ≡ old ++ (k, x) ∷ [])
+  TakesVariable old k new false = new ≡ old

@@ -1,4 +1,4 @@
-// The same search as `search.rt` has, which counts answers and copies no posting.
+// The search of `search.rt`, but that it counts answers and copies no posting.
 ghost use Rattle.std.specs.Prelude.{◌≡◌, [], IfOk};
 ghost use Rattle.si_descend.specs.Counting.{HasCounted};
 ghost use Rattle.si_descend.specs.Searching.{IsAboveNode};

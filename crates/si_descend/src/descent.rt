@@ -267,7 +267,7 @@ fn length_of(cells: &[Cell]) -> u32
     }
 }
 
-// As [`descend_with`], but that variables may stay taken and bindings be left and, where memory
+// As `descend_with`, but that variables may stay taken and bindings be left and, where memory
 // runs out, postings and pending nodes too.
 fn search_below<'a>(
     search: &Search<'a>,

@@ -3,7 +3,8 @@ ghost use Rattle.std.specs.Prelude.{◌≡◌, ◌↔◌, Some, IsTrue, length};
 ghost use Rattle.si_flat.specs.Cells.{IsWhole};
 ghost use Rattle.si_tree.specs.Reading.{IsNode};
 ghost use Rattle.si_unify.specs.Solving.{AllowsSolving};
-ghost use Rattle.si_descend.specs.Heads.{first_cell_of, CannotHave, IsUnwanted, IsWanted, KeepsVariables};
+ghost use Rattle.si_fit.specs.Meeting.{first_cell_of};
+ghost use Rattle.si_descend.specs.Heads.{CannotHave, IsUnwanted, IsWanted, KeepsVariables};
 
 use crate::search::Search;
 use si_defs::Relation;

@@ -6,7 +6,7 @@ ghost use Rattle.si_unify.specs.Rooms.{AreNoLongerThan, IsNoLessRoom};
 ghost use Rattle.si_descend.specs.Attempts.{wanted_of, AreAttempts};
 ghost use Rattle.si_descend.specs.Heads.{IsWanted};
 ghost use Rattle.si_descend.specs.Lending.{IsEnoughForTree};
-ghost use Rattle.si_descend.specs.Pending.{marks_of, pending_at, with_marks, ArePending, HasStepped, HasTurnedTo, IsDue, LacksTurn, LeavesDue};
+ghost use Rattle.si_descend.specs.Pending.{marks_of, pending_at, with_marks, ArePending, HasStepped, HasTurnedTo, IsDue, LacksTurn, PutsDue};
 ghost use Rattle.si_unify.specs.Solving.{Pairs};
 ghost use Rattle.si_descend.specs.Searching.{IsAtNode, IsOpenAt, IsReady};
 
@@ -143,7 +143,7 @@ fn push_open<'a>(
 ) -> Result<(), AllocError>
     requires there { IsAtNode search.now node trail.now taken.now }
     requires opened { IsOpenAt search.now node }
-    ensures leaves { OnOk result (LeavesDue search.now (pending_at node trail.now taken.now)
+    ensures leaves { OnOk result (PutsDue search.now (pending_at node trail.now taken.now)
         trail.now taken.now pending.old.items pending.new.items) }
     ensures full { OnErr result (AtNode search.now.tree.now node (λ n. vec_capacity pending.old
         < vec_len pending.old + length (children_of n.content))) }
@@ -207,7 +207,7 @@ fn push_tried<'a>(
     requires there { IsAtNode search.now node trail.now taken.now }
     requires wanted { IsWanted search.now node trail.now.pairs (wanted_of attempts) }
     requires attempts { AreAttempts search.now node attempts }
-    ensures leaves { OnOk result (LeavesDue search.now (pending_at node trail.now taken.now)
+    ensures leaves { OnOk result (PutsDue search.now (pending_at node trail.now taken.now)
         trail.now taken.now pending.old.items pending.new.items) }
     ensures full { OnErr result (AtNode search.now.tree.now node (λ n. vec_capacity pending.old
         < vec_len pending.old + length (children_of n.content))) }

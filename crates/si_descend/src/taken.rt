@@ -2,7 +2,7 @@
 ghost use Rattle.std.specs.Prelude.{◌≡◌, ◌<◌, ◌≤◌, [], IfOk, OnErr, is_none, length, take};
 ghost use Rattle.si_defs.specs.declared.Relation.TheVariants.{Variants};
 ghost use Rattle.si_trail.specs.Trails.{value_at};
-ghost use Rattle.si_descend.specs.Renaming.{Takes};
+ghost use Rattle.si_descend.specs.Renaming.{TakesVariable};
 ghost use Rattle.si_descend.specs.Lending.{IsTableFor};
 
 use si_defs::Relation;
@@ -91,7 +91,7 @@ impl Taken {
     pub(crate) fn take(&mut self, number: u32) -> bool
         requires { number < self.old.slots }
         ensures free { result ≡ is_none (value_at self.old.pairs number) }
-        ensures takes { Takes self.old.pairs number self.new.pairs result }
+        ensures takes { TakesVariable self.old.pairs number self.new.pairs result }
         ensures slots { self.new.slots ≡ self.old.slots }
     {
         match &mut self.trail {
@@ -105,7 +105,7 @@ impl Taken {
 fn take(trail: &mut Trail<()>, number: u32) -> bool
     requires { number < trail.old.slots }
     ensures free { result ≡ is_none (value_at trail.old.pairs number) }
-    ensures takes { Takes trail.old.pairs number trail.new.pairs result }
+    ensures takes { TakesVariable trail.old.pairs number trail.new.pairs result }
     ensures slots { trail.new.slots ≡ trail.old.slots }
 {
     if trail.get(number as usize).is_some() {

@@ -39,11 +39,11 @@ abbrev pub rows_of : Entries → List Row
 rows_of e = e.around.items ++ e.row ∷ []
 
 -- the entries that are left in the literal, and those that are left of the clause
-abbrev pub rows_inside : Entries → List Placed
-rows_inside e = rows_left e.literal [] (rows_of e)
+abbrev pub left_in_literal : Entries → List Placed
+left_in_literal e = rows_left e.literal [] (rows_of e)
 
 abbrev pub left_of : Entries → List Placed
-left_of e = rows_inside e ++ entries_from (1 + e.literal) (map literal_of e.literals.now)
+left_of e = left_in_literal e ++ entries_from (1 + e.literal) (map literal_of e.literals.now)
 
 -- where the entry stands that was given last
 abbrev pub last_place : Entries → Place
@@ -74,24 +74,24 @@ pub record HasSameLiterals (old new : Entries) : Type 0 where
 
 -- this argument is passed, and all in it is left out
 pub record PassesTerm (t : Term) (old new : Entries) : Type 0 where
-  pub left : rows_inside old
-      ≡ at new.literal (numbers (rows_of new)) (occurrences t) ++ rows_inside new
+  pub left : left_in_literal old
+      ≡ at new.literal (numbers (rows_of new)) (occurrences t) ++ left_in_literal new
   pub lighter : weight new < weight old
   pub few : size t ≤ MOST_OCCURRENCES
 
 -- the walk is in these arguments of the term that it passed last
-pub record EntersTerm (terms : List program.Term) (old new : Entries) : Type 0 where
+pub record EntersArguments (terms : List program.Term) (old new : Entries) : Type 0 where
   pub same : HasSameLiterals old new
   pub path : numbers new.around.items ≡ numbers (rows_of old)
-  pub left : rows_inside new
+  pub left : left_in_literal new
       ≡ at new.literal (numbers new.around.items) (occurrences_from 1 (row (map term_of terms)))
-      ++ rows_inside old
+      ++ left_in_literal old
 
 abbrev pub GivesTerm : Entries → Entries → Option (Bor program.Term) → Type 0
-GivesTerm old new None = (rows_inside old ≡ []) × (rows_inside new ≡ [])
+GivesTerm old new None = (left_in_literal old ≡ []) × (left_in_literal new ≡ [])
 GivesTerm old new (Some t) =
-    rows_inside old
-    ≡ record { entry = term_entry (term_of t.now); place = last_place new } ∷ rows_inside new
+    left_in_literal old
+    ≡ record { entry = term_entry (term_of t.now); place = last_place new } ∷ left_in_literal new
 
 abbrev pub GivesEntry : Entries → Entries → Option program_entry.Entry → Type 0
 GivesEntry old new None = (left_of old ≡ []) × (left_of new ≡ [])

@@ -6,7 +6,7 @@ ghost use Rattle.si_defs.specs.Entries.{entries};
 ghost use Rattle.si_defs.specs.declared.TheConstants.{MOST_OCCURRENCES};
 ghost use Rattle.si_term.specs.Terms.{term_of};
 ghost use Rattle.si_term.specs.Meaning.{clause_of, literal_of, place_of};
-ghost use Rattle.si_entries.specs.Walks.{IsSmall, HasSameLiterals, PassesTerm, EntersTerm, GivesEntry, GivesAfter, GivesTerm, rows_inside, left_of, last_place, weight};
+ghost use Rattle.si_entries.specs.Walks.{IsSmall, HasSameLiterals, PassesTerm, EntersArguments, GivesEntry, GivesAfter, GivesTerm, left_in_literal, left_of, last_place, weight};
 
 use si_term::{Clause, Entry, Literal, Path, Place, Term};
 use std::alloc::{AllocError, Global};
@@ -116,7 +116,8 @@ impl<'a> Entries<'a> {
         ensures small { IsSmall self.new }
         ensures same { HasSameLiterals self.old self.new }
         ensures some { IfSome result (λ term. PassesTerm (term_of term.now) self.old self.new) }
-        ensures none { IfNone result (rows_inside self.old ≡ [] × rows_inside self.new ≡ []) }
+        ensures none { IfNone result
+            (left_in_literal self.old ≡ [] × left_in_literal self.new ≡ []) }
     {
         self.climb();
         let (term, left) = self.row.left.split_first()?;
@@ -130,7 +131,7 @@ impl<'a> Entries<'a> {
         requires { IsSmall self.old }
         ensures small { IsSmall self.new }
         ensures same { HasSameLiterals self.old self.new }
-        ensures inside { rows_inside self.new ≡ rows_inside self.old }
+        ensures inside { left_in_literal self.new ≡ left_in_literal self.old }
         ensures lighter { weight self.new ≤ weight self.old }
         ensures top { self.new.row.left.now ≡ [] → self.new.around.items ≡ [] }
     {
@@ -147,7 +148,7 @@ impl<'a> Entries<'a> {
         requires small { IsSmall self.old }
         requires few { sizes (row (map term_of arguments.now)) ≤ MOST_OCCURRENCES }
         ensures small { OnOk result (IsSmall self.new) }
-        ensures descends { OnOk result (EntersTerm arguments.now self.old self.new) }
+        ensures descends { OnOk result (EntersArguments arguments.now self.old self.new) }
     {
         let row = Row {
             left: arguments,
@@ -161,7 +162,7 @@ impl<'a> Entries<'a> {
     /// The next literal; `None` at the end.
     fn next_literal(&mut self) -> Option<Entry<'a>>
         requires small { IsSmall self.old }
-        requires done { rows_inside self.old ≡ [] }
+        requires done { left_in_literal self.old ≡ [] }
         ensures small { IsSmall self.new }
         ensures next { GivesEntry self.old self.new result }
     {

@@ -14,13 +14,13 @@ use Rattle.si_fit.specs.declared.meeting.Met.{Met}
 use Rattle.si_fit.specs.declared.meeting.Met.TheVariants.{Equal, Clash, Unknown}
 
 -- ---- cells
--- the first one
-abbrev pub leading_cell : List Cell → Cell
-leading_cell cells = get_or cells 0 (cell.App 0 0 0)
+-- the first one, and any where there is none
+abbrev pub first_cell_of : List Cell → Cell
+first_cell_of cells = get_or cells 0 (cell.App 0 0 0)
 
 -- the two don't begin with the same symbol
-abbrev pub HaveOtherSymbols : List Cell → List Cell → Type 0
-HaveOtherSymbols left right = IsTrue (same_symbol (leading_cell left) (leading_cell right)) → ⊥
+abbrev pub HaveNoSameSymbol : List Cell → List Cell → Type 0
+HaveNoSameSymbol left right = IsTrue (same_symbol (first_cell_of left) (first_cell_of right)) → ⊥
 
 -- the one is an indicator, or the other is of the query
 abbrev pub is_newer : Cell → Cell → Bool
@@ -50,8 +50,9 @@ HasMet slots old new left right Clash =
     (f : Variable → Term) → IsSolvedBy slots old f → Equalizes f left right → ⊥
 HasMet slots old new left right Unknown = Unit {0}
 
--- The outcome of a walk over two terms, and what it leaves of the trail: more may be bound, from
--- where the solver may go on, and no new value is longer than all that was there.
+-- The outcome of making two terms equal, and what it leaves of the trail: more may be bound, the
+-- solver may go on from there, and no new value is longer than the longest of the old values and
+-- the two terms.
 pub record HasWalked (slots : Slots) (old new : Trail (Bor (List Cell))) (left right : List Cell)
     (met : Met) : Type 0 where
   pub outcome : HasMet slots old.pairs new.pairs left right met

@@ -2,7 +2,7 @@
 ghost use Rattle.std.specs.List.{AllByRecursion};
 ghost use Rattle.si_fit.specs.Fitting.{AreWalkable};
 ghost use Rattle.si_fit.specs.Fresh.{StandOnce, IsNew};
-ghost use Rattle.si_fit.specs.Meeting.{leading_cell, HaveOtherSymbols, HasWalked};
+ghost use Rattle.si_fit.specs.Meeting.{first_cell_of, HaveNoSameSymbol, HasWalked};
 
 use crate::ends::end_of;
 use crate::meeting::Met;
@@ -61,8 +61,8 @@ fn fill_one<'a>(
     budget: &mut u32,
 ) -> Met
     requires terms { AreWalkable slots.now trail.old left.now right.now }
-    requires differ { HaveOtherSymbols left.now right.now }
-    requires fresh { IsNew slots.now trail.old.pairs left.now (leading_cell right.now) }
+    requires differ { HaveNoSameSymbol left.now right.now }
+    requires fresh { IsNew slots.now trail.old.pairs left.now (first_cell_of right.now) }
     ensures { HasWalked slots.now trail.old trail.new left.now right.now result }
 {
     let first = right[0];

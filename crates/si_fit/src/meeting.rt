@@ -2,7 +2,7 @@
 ghost use Rattle.std.specs.Prelude.{◌≡◌, ◌≤◌, None};
 ghost use Rattle.si_trail.specs.Trails.{value_at};
 ghost use Rattle.si_fit.specs.Fitting.{AreWalkable};
-ghost use Rattle.si_fit.specs.Meeting.{leading_cell, IsOpenSlot, slot_cells, HasWalked};
+ghost use Rattle.si_fit.specs.Meeting.{first_cell_of, IsOpenSlot, slot_cells, HasWalked};
 ghost use Rattle.si_fit.specs.Occurring.{IsFreeFor};
 
 use crate::occurring::{Occurrence, search};
@@ -41,7 +41,7 @@ pub(crate) fn bind<'a>(
     requires terms { AreWalkable slots.now trail.old (slot_cells slots.now slot) term.now }
     requires slot { IsOpenSlot slots.now slot }
     requires unbound { value_at trail.old.pairs slot ≡ None }
-    requires first { IsFreeFor slots.now trail.old.pairs slot (leading_cell term.now) }
+    requires first { IsFreeFor slots.now trail.old.pairs slot (first_cell_of term.now) }
     ensures walked { HasWalked slots.now trail.old trail.new (slot_cells slots.now slot) term.now
         result }
     ensures fewer { budget.new ≤ budget.old }

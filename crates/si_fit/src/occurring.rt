@@ -3,7 +3,7 @@ ghost use Rattle.std.specs.Prelude.{◌↔◌, ◌≤◌, IsTrue};
 ghost use Rattle.std.specs.List.{AllByRecursion};
 ghost use Rattle.si_flat.specs.Cells.{IsWhole};
 ghost use Rattle.si_unify.specs.Solving.{AreInRange, CellIsInRange, IsBinding};
-ghost use Rattle.si_fit.specs.Meeting.{leading_cell, IsOpenSlot};
+ghost use Rattle.si_fit.specs.Meeting.{first_cell_of, IsOpenSlot};
 ghost use Rattle.si_fit.specs.Occurring.{IsFreeFor, HasSearched, HasSearchedCell};
 
 use si_flat::Cell;
@@ -111,7 +111,7 @@ pub(crate) fn search(
 ) -> Occurrence
     requires slot { IsOpenSlot slots.now slot }
     requires whole { IsWhole cells.now }
-    requires first { IsFreeFor slots.now trail.now.pairs slot (leading_cell cells.now) }
+    requires first { IsFreeFor slots.now trail.now.pairs slot (first_cell_of cells.now) }
     requires range { AreInRange slots.now cells.now }
     requires bindings { AllByRecursion (IsBinding slots.now) trail.now.pairs }
     ensures found { HasSearched slots.now trail.now.pairs slot cells.now result }

@@ -3,7 +3,7 @@ ghost use Rattle.std.specs.Prelude.{◌≡◌, ◌≤◌, None, Some};
 ghost use Rattle.si_trail.specs.Trails.{value_at};
 ghost use Rattle.si_unify.specs.Spots.{free_slot};
 ghost use Rattle.si_fit.specs.Fitting.{AreWalkable};
-ghost use Rattle.si_fit.specs.Meeting.{leading_cell, is_newer, HaveOtherSymbols, HasWalked};
+ghost use Rattle.si_fit.specs.Meeting.{first_cell_of, is_newer, HaveNoSameSymbol, HasWalked};
 
 use crate::meeting::{Met, bind, value_at};
 use si_flat::{Cell, sub};
@@ -80,8 +80,8 @@ fn meet_fixed<'a>(
     budget: &mut u32,
 ) -> Met
     requires terms { AreWalkable slots.now trail.old left.now right.now }
-    requires differ { HaveOtherSymbols left.now right.now }
-    requires fixed { free_slot slots.now (leading_cell right.now) ≡ None }
+    requires differ { HaveNoSameSymbol left.now right.now }
+    requires fixed { free_slot slots.now (first_cell_of right.now) ≡ None }
     ensures walked { HasWalked slots.now trail.old trail.new left.now right.now result }
     ensures fewer { budget.new ≤ budget.old }
 {
@@ -125,7 +125,7 @@ fn meet_unbound<'a>(
     budget: &mut u32,
 ) -> Met
     requires terms { AreWalkable slots.now trail.old left.now right.now }
-    requires variable { free_slot slots.now (leading_cell right.now) ≡ Some slot }
+    requires variable { free_slot slots.now (first_cell_of right.now) ≡ Some slot }
     requires unbound { value_at trail.old.pairs slot ≡ None }
     ensures walked { HasWalked slots.now trail.old trail.new left.now right.now result }
     ensures fewer { budget.new ≤ budget.old }
@@ -157,7 +157,7 @@ pub(crate) fn meet<'a>(
     budget: &mut u32,
 ) -> Met
     requires terms { AreWalkable slots.now trail.old left.now right.now }
-    requires differ { HaveOtherSymbols left.now right.now }
+    requires differ { HaveNoSameSymbol left.now right.now }
     ensures walked { HasWalked slots.now trail.old trail.new left.now right.now result }
     ensures fewer { budget.new ≤ budget.old }
 {

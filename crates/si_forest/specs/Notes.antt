@@ -44,6 +44,6 @@ pub record HasRoomForLocations {A : Type 0} (locations : Vec Location A) (more :
   pub len : more < 2 ^ 32
 
 -- the key may be given so many notes
-pub record HasPlace (notes : Notes) (key count : ℕ) : Type 0 where
+pub record HasPlaceForNotes (notes : Notes) (key count : ℕ) : Type 0 where
   pub place : key < length notes.spans.items
   pub room : HasRoomForLocations notes.locations count

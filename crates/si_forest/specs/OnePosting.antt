@@ -22,7 +22,7 @@ pub record GainsOne (old new : Tree Term) (t : Term) (p : Posting) (leaf : ℕ) 
   pub keeps : KeepsLeaves old new
 
 -- The posting goes from the leaf that it stands in, and all others stay. The leaf goes with its
--- last posting, and stays without one only where a join is due, for which there was no memory.
+-- last posting, and stays without one only where a join was due.
 pub record LosesOne (old new : Tree Term) (p : Posting) (leaf : ℕ) : Type 0 where
   pub legal : IsLegal new
   pub stood : (t : Term) × StandsIn old leaf t p

@@ -1,6 +1,6 @@
 // Where the postings of all clauses stand.
 ghost use Rattle.std.specs.Prelude.{◌≡◌, ◌<◌, ℕ, [], ◌++◌, IfOk, OnOk, length};
-ghost use Rattle.si_forest.specs.Notes.{notes_in, notes_of, keyed_span, AreSpans, HasNotes, HasPlace, HasRoomForLocations, IsSpanWithin, KeepNotes};
+ghost use Rattle.si_forest.specs.Notes.{notes_in, notes_of, keyed_span, AreSpans, HasNotes, HasPlaceForNotes, HasRoomForLocations, IsSpanWithin, KeepNotes};
 
 use crate::location::Location;
 use std::alloc::{AllocError, Global};
@@ -51,7 +51,7 @@ impl Notes {
         requires { AreSpans self.old }
         ensures spans { AreSpans self.new }
         ensures keeps { KeepNotes self.old self.new }
-        ensures place { OnOk result (HasPlace self.new key count) }
+        ensures place { OnOk result (HasPlaceForNotes self.new key count) }
     {
         make_place(&mut self.spans, key)?;
         make_room(&mut self.locations, count)
@@ -60,7 +60,7 @@ impl Notes {
     /// Gives a key these notes, for which there is place and room.
     pub(crate) fn set(&mut self, key: usize, notes: &[Location])
         requires spans { AreSpans self.old }
-        requires place { HasPlace self.old key (length notes.now) }
+        requires place { HasPlaceForNotes self.old key (length notes.now) }
         ensures spans { AreSpans self.new }
         ensures set { HasNotes self.old self.new key notes.now }
     {

@@ -18,7 +18,7 @@ use Rattle.si_unify.proofs.Places.{value_holds}
 use Rattle.si_form.specs.declared.classes.Node.{Node}
 use Rattle.si_form.specs.declared.classes.Node.TheVariants.{Variable as Of}
 use Rattle.si_form.specs.Classes.{Interns, AreNodes, slots_of, KnowsSlot, HasClass, HasSingles, LeavesUnbound, KnowsWhere, HasClasses, IsClassing}
-use Rattle.si_form.specs.Ordering.{uses_at, list_or_none, IsListed, IsOpen, AreFirstUnused, AreOrdered}
+use Rattle.si_form.specs.Ordering.{uses_at, list_or_none, IsListed, MayComeNext, AreFirstUnused, AreOrdered}
 use Rattle.si_form.specs.Uses.{used_in, UsesBelow}
 use Rattle.si_defs.proofs.ListLaws as members
 use Rattle.si_form.proofs.NodeLaws.{grows, still_known}
@@ -51,9 +51,9 @@ singles_more slots nodes new classes classes' count n less h adds is =
 
 -- ---- places in an order
 module _ (used : ℕ → Option (List ℕ)) where
-  open_at : (before left : List ℕ) (slot : ℕ) (done : List ℕ) → AreFirstUnused used before (left ++ slot ∷ done) → IsOpen used (before ++ left) slot
-  open_at before [] slot done h = subst (λ l. IsOpen used l slot) (sym (append-nil before)) h.0.is_open
-  open_at before (k ∷ left) slot done h = subst (λ l. IsOpen used l slot) (append_assoc before (k ∷ []) left) (open_at (before ++ k ∷ []) left slot done h.1)
+  open_at : (before left : List ℕ) (slot : ℕ) (done : List ℕ) → AreFirstUnused used before (left ++ slot ∷ done) → MayComeNext used (before ++ left) slot
+  open_at before [] slot done h = subst (λ l. MayComeNext used l slot) (sym (append-nil before)) h.0.is_open
+  open_at before (k ∷ left) slot done h = subst (λ l. MayComeNext used l slot) (append_assoc before (k ∷ []) left) (open_at (before ++ k ∷ []) left slot done h.1)
 
   not_used_before : (before left : List ℕ) (slot : ℕ) (done : List ℕ) (y : ℕ) → AreFirstUnused used before (left ++ slot ∷ done) → IsAmong left y → IsAmong (list_or_none (used slot)) y → ⊥
   not_used_before before [] slot done y h a u = elim a [ ]

@@ -15,7 +15,7 @@ use Rattle.si_unify.proofs.Rows.{join-more, join-none}
 use Rattle.si_form.specs.declared.classes.Node.{Node}
 use Rattle.si_form.specs.declared.classes.Node.TheVariants.{Variable as Of, Head, With}
 use Rattle.si_form.specs.Classes.{with_last, IsTermOfNode, AreNodes}
-use Rattle.si_form.specs.Folding.{same_numbered, same_terms, same_rows, or_slot, leader_below, LeadClasses, HaveKnown, HasSymbol, UnfoldsClass, HasUnfolded, IsUnfolding, HasTerms, HasEarlierParts, AreSizes, node_size, part_size}
+use Rattle.si_form.specs.Folding.{same_numbered, same_terms, same_rows, or_slot, leader_below, LeadClasses, HaveKnown, HasSymbol, UnfoldsClass, HasUnfolded, IsUnfolding, HasTerms, HasPartsBefore, AreSizes, node_size, part_size}
 use Rattle.si_flat.proofs.VariableLaws.{variable_is, variable_self}
 use Rattle.si_form.proofs.NodeLaws.{known_of}
 use Rattle.si_form.proofs.Vocabularies.{number_tells, number_itself}
@@ -176,7 +176,7 @@ descending_ends nodes left left1 class front a b h node slots known s ts rest ar
     )
 
 -- ---- sizes
-pub is_before : (nodes : List Node) (n : ℕ) (node : Node) → HasTerms nodes → Some node ≡ slice_get nodes n → HasEarlierParts n node
+pub is_before : (nodes : List Node) (n : ℕ) (node : Node) → HasTerms nodes → Some node ≡ slice_get nodes n → HasPartsBefore n node
 is_before nodes n (Of slot) has at = tt
 is_before nodes n (Head s a) has at = tt
 is_before nodes n (With p q) has at = let m = (known_of has.0 nodes has.1 has.2 n (With p q) (sym at)).2 in (m.front_before, m.argument_before)
@@ -184,14 +184,14 @@ is_before nodes n (With p q) has at = let m = (known_of has.0 nodes has.1 has.2 
 pub sizes_begin : (nodes : List Node) (leaders : List (Option ℕ)) (sizes : List ℕ) → sizes ≡ [] → AreSizes nodes leaders 0 sizes
 sizes_begin nodes leaders sizes none = record { long = ap length none; sizes_are = λ n node less at. absurd (omega (arith, less)) }
 
-size_front : (sizes more : List ℕ) (leaders : List (Option ℕ)) (node : Node) → HasEarlierParts (length sizes) node → node_size (sizes ++ more) leaders node ≡ node_size sizes leaders node
+size_front : (sizes more : List ℕ) (leaders : List (Option ℕ)) (node : Node) → HasPartsBefore (length sizes) node → node_size (sizes ++ more) leaders node ≡ node_size sizes leaders node
 size_front sizes more leaders (Of slot) h = refl
 size_front sizes more leaders (Head s a) h = refl
 size_front sizes more leaders (With p q) h =
     ap (λ x. min (x + part_size (get_or leaders q None) (get_or (sizes ++ more) q 0)) (2 ^ 32 - 1)) (get_or_front sizes more p 0 h.0)
     ∙ ap (λ x. min (get_or sizes p 0 + part_size (get_or leaders q None) x) (2 ^ 32 - 1)) (get_or_front sizes more q 0 h.1)
 
-later_before : (m n : ℕ) (node : Node) → m ≤ n → HasEarlierParts m node → HasEarlierParts n node
+later_before : (m n : ℕ) (node : Node) → m ≤ n → HasPartsBefore m node → HasPartsBefore n node
 later_before m n (Of slot) less h = tt
 later_before m n (Head s a) less h = tt
 later_before m n (With p q) less h = (omega (arith, less, h.0), omega (arith, less, h.1))
@@ -200,7 +200,7 @@ pub sizes_more : (nodes : List Node) (leaders : List (Option ℕ)) (sizes new : 
 sizes_more nodes leaders sizes new k size node has at h size_is is = subst (AreSizes nodes leaders (k + 1)) (sym is) (record {
   long = length-append sizes (size ∷ []) ∙ omega (arith, h.long);
   sizes_are = λ n other less here.
-      let before : HasEarlierParts (length sizes) other = later_before n (length sizes) other (omega (arith, less, h.long)) (is_before nodes n other has (sym here)) in
+      let before : HasPartsBefore (length sizes) other = later_before n (length sizes) other (omega (arith, less, h.long)) (is_before nodes n other has (sym here)) in
       let same : node_size (sizes ++ size ∷ []) leaders other ≡ node_size sizes leaders other = size_front sizes (size ∷ []) leaders other before in
       elim (eqb_tells n k) [
         | inl e ↦

@@ -135,10 +135,10 @@ node_size sizes leaders (With front argument) =
     (slice_index_or sizes argument 0)) (2 ^ 32 - 1)
 
 -- the node's parts are among the first so many
-abbrev pub HasEarlierParts : ℕ → Node → Type 0
-HasEarlierParts n (Of slot) = Unit {0}
-HasEarlierParts n (Head sym arity) = Unit {0}
-HasEarlierParts n (With front argument) = (front < n) × (argument < n)
+abbrev pub HasPartsBefore : ℕ → Node → Type 0
+HasPartsBefore n (Of slot) = Unit {0}
+HasPartsBefore n (Head sym arity) = Unit {0}
+HasPartsBefore n (With front argument) = (front < n) × (argument < n)
 
 pub record AreSizes (nodes : List Node) (leaders : List (Option ℕ)) (k : ℕ)
     (sizes : List ℕ) : Type 0 where

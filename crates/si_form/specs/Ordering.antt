@@ -30,7 +30,7 @@ module _ (used : ℕ → Option (List ℕ)) where
   IsListed k = (xs : List ℕ) × (used k ≡ Some xs)
 
   -- it isn't among those before, and no other that isn't uses it
-  pub record IsOpen (before : List ℕ) (j : ℕ) : Type 0 where
+  pub record MayComeNext (before : List ℕ) (j : ℕ) : Type 0 where
     pub listed : IsListed j
     pub behind : IsAmong before j → ⊥
     pub unused : (i : ℕ) → IsListed i → (IsAmong before i → ⊥)
@@ -38,8 +38,8 @@ module _ (used : ℕ → Option (List ℕ)) where
 
   -- the least of these
   pub record IsFirstUnused (before : List ℕ) (k : ℕ) : Type 0 where
-    pub is_open : IsOpen before k
-    pub first : (j : ℕ) → j < k → IsOpen before j → ⊥
+    pub is_open : MayComeNext before k
+    pub first : (j : ℕ) → j < k → MayComeNext before j → ⊥
 
   abbrev pub AreFirstUnused : List ℕ → List ℕ → Type 0
   AreFirstUnused before [] = Unit {0}

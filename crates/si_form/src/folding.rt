@@ -3,7 +3,7 @@ ghost use Rattle.std.specs.Prelude.{◌≡◌, ◌<◌, ◌≤◌, List, None, S
 ghost use Rattle.std.specs.Prelude.{IfOk, OnOk};
 ghost use Rattle.std.specs.List.{AllByRecursion};
 ghost use Rattle.si_flat.specs.Cells.{Variable, Term};
-ghost use Rattle.si_form.specs.Folding.{HasTerms, HasSymbol, UnfoldsClass, part_size, node_size, HasEarlierParts};
+ghost use Rattle.si_form.specs.Folding.{HasTerms, HasSymbol, UnfoldsClass, part_size, node_size, HasPartsBefore};
 ghost use Rattle.si_form.specs.Folding.{AreSizes, WritesCells, CanFold, HasFolded, IsFolding};
 
 use crate::classes::{Classes, Node};
@@ -80,7 +80,7 @@ fn part_size(sizes: &[u32], leaders: &[Option<usize>], class: usize) -> u32
 
 // How many cells are written for a class, from the sizes of those before.
 fn node_size(sizes: &[u32], leaders: &[Option<usize>], node: Node) -> u32
-    requires before { HasEarlierParts (length sizes.now) node }
+    requires before { HasPartsBefore (length sizes.now) node }
     requires led { length sizes.now ≤ length leaders.now }
     ensures { result ≡ node_size sizes.now leaders.now node }
 {

@@ -31,7 +31,7 @@ use Rattle.si_form.specs.TableNumbers.{HaveNumbers}
 use Rattle.si_form.proofs.NumberingLaws.{answers_are_kept}
 use Rattle.si_form.proofs.SolutionLaws.{solutions_are_of_terms, atoms_are_answered}
 use Rattle.si_form.proofs.TableLaws.{entries_need_the_table_alone}
-use Rattle.si_index.specs.Searching.{AreComparable, IsKnownEntry, AnswersEntry}
+use Rattle.si_index.specs.Searching.{AreCompared, IsKnownEntry, AnswersEntry}
 
 -- ---- numbers
 -- symbols that have numbers don't lack one, and the other way round
@@ -97,7 +97,7 @@ module _ (relation : Relation) (table extra : Numbering) (p u : Term) (positive 
 
 -- what the terms are answered, the pattern and the entry are
 entry_answered : (relation : Relation) (numbers : Numbering) (p : Pattern) (e : Entry) (answer : Option (List Binding))
-    → AreComparable p e
+    → AreCompared p e
     → HaveNumbers numbers (symbols_of (whole_of (pattern_entry p)) (whole_of e))
     → AnswersToTexts relation (whole_of (pattern_entry p)) (whole_of e) (number_in numbers) (variable_by (distinct_variables (pattern_entry p)) (distinct_variables e)) answer
     → AnswersEntry relation numbers p e answer
@@ -127,7 +127,7 @@ pub flat_answers : (relation : Relation) (table : Numbering) (p : Pattern) (q : 
     → IsSoundPattern p
     → FlattensPattern table p q
     → IsKnownEntry table e
-    → AreComparable p e
+    → AreCompared p e
     → IsFlatOf table cells.entry e list
     → Answers relation q.flat list answer
     → AnswersEntry relation (query_numbers table q.extra) p e answer
@@ -150,7 +150,7 @@ flat_answers relation table (literal_pattern l) q (term_entry u) list answer num
 flat_answers relation table (term_pattern t) q (literal_entry k) list answer numbering sound query known alike flat told = absurd alike
 
 -- what stands in the relation is alike
-pub alike_standing : (relation : Relation) (p : Pattern) (e : Entry) → Stands relation p e → AreComparable p e
+pub alike_standing : (relation : Relation) (p : Pattern) (e : Entry) → Stands relation p e → AreCompared p e
 alike_standing relation (literal_pattern l) (literal_entry k) s = s.0
 alike_standing relation (term_pattern t) (term_entry u) s = tt
 alike_standing relation (literal_pattern l) (term_entry u) s = s

@@ -37,7 +37,7 @@ use Rattle.si_sign.proofs.StoreLaws.{stored_none}
 use Rattle.std.proofs.lemmas.Option.{none-some}
 use Rattle.si_index.specs.Names.{key_of_name}
 use Rattle.si_index.specs.Stored.{keyed_clauses, IsKeptIndex, AreHeld}
-use Rattle.si_index.specs.Register.{IsRegisterOf, CountsClause, Uncounts, StrikesOut, IsSameRegister}
+use Rattle.si_index.specs.Register.{IsRegisterOf, CountsClause, UncountsClause, StrikesOut, IsSameRegister}
 use Rattle.si_index.specs.declared.register.Register.{Register}
 
 -- ---- the clauses with their keys
@@ -130,7 +130,7 @@ module _ (items : List (ℕ × term.Clause)) (register : Register) (trees : TwoT
   entered_numbers c between enters = none_lacking between.signature (clause_symbols c) (λ s. omega (arith, enters.uses s))
 
   -- and counted no more
-  pub uncounted_held : (c : Clause) (between new : Register) (after : TwoTrees) → CountsClause c register between → AreHeld items between after → Uncounts c between new → AreHeld items new after
+  pub uncounted_held : (c : Clause) (between new : Register) (after : TwoTrees) → CountsClause c register between → AreHeld items between after → UncountsClause c between new → AreHeld items new after
   uncounted_held c between new after enters now undone =
       still_held between new items after now undone.signature undone.numbers (λ s. omega (arith, enters.uses s, is.signed s, undone.uses s))
 

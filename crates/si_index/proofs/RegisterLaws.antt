@@ -24,7 +24,7 @@ use Rattle.si_sign.proofs.UsesOf.{among_numbering, numbering_among, uses_positiv
 use Rattle.si_keyed.specs.Keyed.{HasKey, HasKeyAt, IsTakenOut}
 use Rattle.si_index.specs.Kept.{KeysStay, clauses_of}
 use Rattle.si_index.specs.Names.{key_of_name, AreNamed, ChangesName, NameLeadsAway}
-use Rattle.si_index.specs.Register.{IsRegisterOf, HasPut, Admits, CountsClause, Uncounts, StrikesOut, IsSameRegister, Bars}
+use Rattle.si_index.specs.Register.{IsRegisterOf, HasPut, Admits, CountsClause, UncountsClause, StrikesOut, IsSameRegister, Bars}
 use Rattle.si_index.specs.Stored.{IsKeptIndex}
 use Rattle.si_index.specs.declared.register.Register.{Register}
 use Rattle.si_index.specs.declared.names.ClauseNames.{ClauseNames}
@@ -156,7 +156,7 @@ module _ (rules : Rules) (old between : Register) (items more : List (ℕ × ter
 pub register_with : (new between : Register) → new.signature ≡ between.signature → new.entries ≡ between.entries → record { names = new.names; signature = between.signature; entries = between.entries } ≡ new
 register_with new between signature counted = λ i. record { names = new.names; signature = sym signature i; entries = sym counted i }
 
-pub uncounted_as : (c : Clause) (between middle new : Register) → middle.signature ≡ between.signature → middle.entries ≡ between.entries → Uncounts c middle new → Uncounts c between new
+pub uncounted_as : (c : Clause) (between middle new : Register) → middle.signature ≡ between.signature → middle.entries ≡ between.entries → UncountsClause c middle new → UncountsClause c between new
 uncounted_as c between middle new signature counted undone = record {
   uses = λ s. undone.uses s ∙ ap (λ g. uses_of g s) signature;
   sum = undone.sum ∙ ap total signature;

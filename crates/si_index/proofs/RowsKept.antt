@@ -15,7 +15,7 @@ use Rattle.si_keyed.proofs.KeyLaws.{key_among}
 use Rattle.si_screen.specs.ClauseRows.{IsRowOf}
 use Rattle.si_screen.proofs.RowLaws.{row_stays}
 use Rattle.si_index.specs.Kept.{clauses_of}
-use Rattle.si_index.specs.Register.{IsRegisterOf, CountsClause, Uncounts, StrikesOut, IsSameRegister}
+use Rattle.si_index.specs.Register.{IsRegisterOf, CountsClause, UncountsClause, StrikesOut, IsSameRegister}
 use Rattle.si_index.specs.Stored.{HaveRows}
 use Rattle.si_index.specs.declared.register.Register.{Register}
 use Rattle.si_index.proofs.HeldClauses.{AreUsed, used_in}
@@ -72,7 +72,7 @@ rows_less numbers items new rows after key c row have out out_rows k d r a b =
     have k d r (left_there items new key c (k, d) out a) (left_there rows after key row (k, r) out_rows b)
 
 -- ---- the register of the clauses
-pub uncounted_rows : (items : List (ℕ × term.Clause)) (rows : List (ℕ × List ℕ)) (register : Register) (c : Clause) (between new : Register) → IsRegisterOf items register → CountsClause c register between → Uncounts c between new → HaveRows (numbering between.signature) items rows
+pub uncounted_rows : (items : List (ℕ × term.Clause)) (rows : List (ℕ × List ℕ)) (register : Register) (c : Clause) (between new : Register) → IsRegisterOf items register → CountsClause c register between → UncountsClause c between new → HaveRows (numbering between.signature) items rows
     → HaveRows (numbering new.signature) items rows
 uncounted_rows items rows register c between new is enters undone now =
     still_rows between.signature new.signature items rows now undone.numbers (λ s. omega (arith, enters.uses s, is.signed s)) (λ s. omega (arith, enters.uses s, is.signed s, undone.uses s))

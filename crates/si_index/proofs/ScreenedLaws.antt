@@ -22,7 +22,7 @@ use Rattle.si_index.proofs.SlotLaws.{clause_among}
 use Rattle.si_index.specs.declared.subsuming.Direction.{Direction}
 use Rattle.si_index.specs.declared.subsuming.Direction.TheVariants.{ToFormula, FromFormula}
 use Rattle.si_index.specs.Slots.{Slots, HaveSlotRows}
-use Rattle.si_index.specs.Subsuming.{AreMappedFrom, ArePassing, IsMapIn, PassesIn, TriesOneClause, TriesSlot, TriesSlots}
+use Rattle.si_index.specs.Subsuming.{AreMappedFrom, ArePassing, IsMapIn, PassesIn, TriesAtPosition, TriesSlot, TriesSlots}
 use Rattle.si_index.specs.declared.subsuming.Mapped.{Mapped}
 
 -- what is left of a list after its first
@@ -60,7 +60,7 @@ module _ (P : List Literal → List ℕ → Type 0) (Passes : List ℕ → Type 
   AreNamedFrom k rest ms new = (others : List Mapped) × AreMappedFrom P k (clauses_of (placed_items rest)) others × (new ≡ ms ++ others)
 
   -- a clause that was tried, and then the others
-  tried_then : (k : ℕ) (c : Clause) (cs : List Clause) (ms mid new : List Mapped) → TriesOneClause P k c ms mid
+  tried_then : (k : ℕ) (c : Clause) (cs : List Clause) (ms mid new : List Mapped) → TriesAtPosition P k c ms mid
       → (others : List Mapped) × AreMappedFrom P (suc k) cs others × (new ≡ mid ++ others) → (others : List Mapped) × AreMappedFrom P k (c ∷ cs) others × (new ≡ ms ++ others)
   tried_then k c cs ms mid new (inl t) later = (
     t.0 ∷ later.0,
@@ -125,12 +125,12 @@ module _ (P : List Literal → List ℕ → Type 0) (Passes : List ℕ → Type 
 
     -- what was tried at the place of a clause is this clause
     tried_here : (n : ℕ) (before rest : Slots) (x : ℕ × (ℕ × term.Clause)) (ms mid : List Mapped) → IsAt n before (x ∷ rest) → x.0 ≡ n → TriesSlot P slots n ms mid
-        → TriesOneClause P (length before) (clause_of x.1.1) ms mid
+        → TriesAtPosition P (length before) (clause_of x.1.1) ms mid
     tried_here n before rest x ms mid at same (inl (m, key, c, got, tries)) =
         let there = place_of n before rest x at in
         let position : m ≡ length before = same_position slots m (length before) (n, (key, c)) x rise got there (sym same) in
         let item : (n, (key, c)) ≡ x = same_Some (n, (key, c)) x (sym got ∙ ap (slice_get slots) position ∙ there) in
-        subst (λ (y : ℕ × (ℕ × term.Clause)). TriesOneClause P (length before) (clause_of y.1.1) ms mid) item (subst (λ k. TriesOneClause P k (clause_of c) ms mid) position tries)
+        subst (λ (y : ℕ × (ℕ × term.Clause)). TriesAtPosition P (length before) (clause_of y.1.1) ms mid) item (subst (λ k. TriesAtPosition P k (clause_of c) ms mid) position tries)
     tried_here n before rest x ms mid at same (inr none) =
         let there = subst (λ l. IsAmong l x) (sym at.whole) (among_back before (x ∷ rest) x (inl refl)) in
         absurd (none.0 (x.1, subst (λ m. IsAmong slots (m, x.1)) same there))

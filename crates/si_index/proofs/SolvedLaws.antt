@@ -7,7 +7,7 @@ use Rattle.si_flat.specs.declared.Cell.{Cell}
 use Rattle.si_flat.specs.Flattened.{HoldsEntry, query_numbers}
 use Rattle.si_form.specs.declared.solution.Binding.{Binding}
 use Rattle.si_form.specs.Answers.{Answers}
-use Rattle.si_index.specs.Searching.{numbers_of, pattern_in, term_in, IsReadyToSearch, IsKnownEntry, AreComparable, AnswersEntry, SolvesEntry, SolvesTerm}
+use Rattle.si_index.specs.Searching.{numbers_of, pattern_in, term_in, IsReadyToSearch, IsKnownEntry, AreCompared, AnswersEntry, SolvesEntry, SolvesTerm}
 use Rattle.si_index.specs.declared.search.Search.{Search}
 use Rattle.si_index.proofs.FlatLaws.{flat_answers, alike_standing}
 
@@ -16,7 +16,7 @@ pub solved_in : (s : Search) (e : Entry) (query entry held : List Cell) (names :
     → entry ≡ held
     → IsReadyToSearch s
     → IsKnownEntry (numbers_of s) e
-    → AreComparable (pattern_in s) e
+    → AreCompared (pattern_in s) e
     → HoldsEntry (numbers_of s) e held names
     → (answer : Option (List Binding))
     → Answers s.relation query entry answer

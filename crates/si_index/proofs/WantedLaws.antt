@@ -39,7 +39,7 @@ use Rattle.si_index.specs.Engines.{Answering, asks_literals, AreAsked, AnswersSt
 use Rattle.si_index.specs.Gathering.{IsLower, IsBefore, Rise, IsPostingAt, StoresPosting, IsInLeaf, AreInOrder, IsHitAt, IsStandingAt}
 use Rattle.si_index.specs.Slots.{Slots, HasSlots, IsIn}
 use Rattle.si_index.specs.Sorting.{AreSorted}
-use Rattle.si_index.specs.Searching.{numbers_of, pattern_in, tree_in, term_in, AreComparable, IsOfLeaf}
+use Rattle.si_index.specs.Searching.{numbers_of, pattern_in, tree_in, term_in, AreCompared, IsOfLeaf}
 use Rattle.si_index.specs.declared.search.Search.{Search}
 use Rattle.si_index.specs.declared.wanted.Leaf.{Leaf}
 use Rattle.si_index.specs.declared.wanted.Ordered.{Ordered}
@@ -157,7 +157,7 @@ paired_got (k ∷ keys) [] n key c a b = absurd (none-some c b)
 paired_got (k ∷ keys) (d ∷ cs) zero key c a b = λ i. Some (same_Some k key a i, same_Some d c b i)
 paired_got (k ∷ keys) (d ∷ cs) (suc n) key c a b = paired_got keys cs n key c a b
 
-same_kind : (p : Pattern) (e : Entry) → AreComparable p e → is_literal e ≡ asks_literals p
+same_kind : (p : Pattern) (e : Entry) → AreCompared p e → is_literal e ≡ asks_literals p
 same_kind (literal_pattern l) (literal_entry k) alike = refl
 same_kind (term_pattern t) (term_entry u) alike = refl
 same_kind (literal_pattern l) (term_entry u) alike = absurd alike

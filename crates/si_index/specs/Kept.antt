@@ -64,7 +64,7 @@ NumbersExactly numbers clauses =
 abbrev pub TreesHold : Kept → Type 0
 TreesHold k = Hold k.numbers (kept_clauses k) k.trees
 
--- the trees lose the postings of one clause, each as one that goes alone
+-- the trees lose the postings of one kept clause, each as one that goes alone
 abbrev pub TreesLose : Kept → Kept → Type 0
 TreesLose old new = (key : ℕ) × IsAmong old.keys key × LoseEach key old.trees new.trees
 

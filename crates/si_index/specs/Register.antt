@@ -56,7 +56,7 @@ pub record CountsClause (clause : Clause) (old new : Register) : Type 0 where
   pub numbers : KeepsNumbers old.signature new.signature
 
 -- they are counted no more
-pub record Uncounts (clause : Clause) (old new : Register) : Type 0 where
+pub record UncountsClause (clause : Clause) (old new : Register) : Type 0 where
   pub uses : (s : Symbol)
       → uses_of new.signature s + times s (clause_symbols clause) ≡ uses_of old.signature s
   pub sum : total new.signature + length (clause_symbols clause) ≡ total old.signature
@@ -67,7 +67,7 @@ pub record Uncounts (clause : Clause) (old new : Register) : Type 0 where
 -- the clause is struck out, and its name leads to its key no more
 pub record StrikesOut (clause : Clause) (key : ℕ) (old new : Register) : Type 0 where
   pub name : NameLeadsAway clause.name key old.names new.names
-  pub counts : Uncounts clause old new
+  pub counts : UncountsClause clause old new
 
 -- the register says the same of these clauses
 pub record IsSameRegister (items : List (ℕ × term.Clause)) (old new : Register) : Type 0 where

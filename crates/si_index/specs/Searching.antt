@@ -41,11 +41,11 @@ abbrev pub pattern_in : Search → Pattern
 pattern_in s = pattern_of s.pattern.now
 
 -- only literals of one sign are compared, and terms with terms
-abbrev pub AreComparable : Pattern → Entry → Type 0
-AreComparable (literal_pattern l) (literal_entry k) = l.positive ≡ k.positive
-AreComparable (term_pattern t) (term_entry u) = Unit {0}
-AreComparable (literal_pattern l) (term_entry u) = ⊥
-AreComparable (term_pattern t) (literal_entry k) = ⊥
+abbrev pub AreCompared : Pattern → Entry → Type 0
+AreCompared (literal_pattern l) (literal_entry k) = l.positive ≡ k.positive
+AreCompared (term_pattern t) (term_entry u) = Unit {0}
+AreCompared (literal_pattern l) (term_entry u) = ⊥
+AreCompared (term_pattern t) (literal_entry k) = ⊥
 
 -- ---- what is searched: terms and clauses that are sound, and whose symbols have numbers
 pub record IsKnownTerm (numbers : Numbering) (t : Term) : Type 0 where

@@ -62,9 +62,9 @@ pub record IsFlatFormula (direction : Direction) (formula : List Literal)
 
 -- The clause at this position was tried: it is named after the others if it has a map, and with
 -- the least.
-abbrev pub TriesOneClause : (List Literal → List ℕ → Type 0) → ℕ → Clause → List Mapped
+abbrev pub TriesAtPosition : (List Literal → List ℕ → Type 0) → ℕ → Clause → List Mapped
     → List Mapped → Type 0
-TriesOneClause P k c old new =
+TriesAtPosition P k c old new =
     ((m : Mapped) × (m.clause ≡ k) × IsLeast (P c.literals) m.map × (new ≡ old ++ m ∷ []))
     ⊎ (((ns : List ℕ) → P c.literals ns → ⊥) × (new ≡ old))
 
@@ -100,7 +100,7 @@ abbrev pub TriesSlot : (List Literal → List ℕ → Type 0) → Slots → ℕ 
     → List Mapped → Type 0
 TriesSlot P slots slot old new =
     ((n key : ℕ) × (c : term.Clause) × (slice_get slots n ≡ Some (slot, (key, c)))
-    × TriesOneClause P n (clause_of c) old new)
+    × TriesAtPosition P n (clause_of c) old new)
     ⊎ ((HasPlace slots slot → ⊥) × (new ≡ old))
 
 -- the clauses in these slots were tried, one after the other

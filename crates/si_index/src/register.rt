@@ -10,7 +10,7 @@ ghost use Rattle.si_state.specs.Signatures.{IsSignature, uses_of, known_symbols}
 ghost use Rattle.si_term.specs.Meaning.{clause_of};
 ghost use Rattle.si_sign.specs.declared.uses.TheConstants.{MOST_USES};
 ghost use Rattle.si_index.specs.Names.{key_of_name, AreNamed};
-ghost use Rattle.si_index.specs.Register.{Admits, CountsClause, Uncounts, StrikesOut, IsSameRegister, Bars};
+ghost use Rattle.si_index.specs.Register.{Admits, CountsClause, UncountsClause, StrikesOut, IsSameRegister, Bars};
 
 use crate::names::ClauseNames;
 use si_keyed::KeyedList;
@@ -90,7 +90,7 @@ impl Register {
             ≤ uses_of self.old.signature s }
         requires counted { length (entries (clause_of gone.now)) ≤ self.old.entries }
         requires few { length (entries (clause_of gone.now)) ≤ MOST_OCCURRENCES }
-        ensures uncounts { Uncounts (clause_of gone.now) self.old self.new }
+        ensures uncounts { UncountsClause (clause_of gone.now) self.old self.new }
         ensures names { self.new.names ≡ self.old.names }
         ensures number { result ≡ length (entries (clause_of gone.now)) }
     {

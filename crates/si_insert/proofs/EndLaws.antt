@@ -29,7 +29,7 @@ use Rattle.si_changes.specs.Splits.{MaySplitNode}
 use Rattle.si_tree.specs.declared.node.Head.{Head}
 use Rattle.si_tree.specs.declared.node.Head.TheVariants.{Sym, Var}
 use Rattle.si_tree.specs.Heads.{HasHead, IsChildBy}
-use Rattle.si_insert.specs.Underway.{IsUnderway}
+use Rattle.si_insert.specs.Underway.{IsInsertUnderway}
 use Rattle.si_insert.proofs.UnderwayLaws.{none_among, none_open, stays_whole, child_path}
 
 -- ---- a head that no child has
@@ -78,7 +78,7 @@ head_new tree key split child children node head t u has content none h among bi
     by = (u, binds, head_shared t u head e h);
   }))
 
-pub may_add_leaf : (tree : Tree Term) (key split : ℕ) (children : List ℕ) (node : Node Term) (above : Path) (t r : Term) (there : List Binding) (p : Posting) (head : Head) → IsUnderway tree key t ((key, node) ∷ above) there → node.content ≡ inner split children → IsAmong there (split, r) → HasHead r head → ((other : ℕ) → IsChildBy tree key head other → ⊥) → MayComeIn tree t p → MayAddLeaf tree key there p
+pub may_add_leaf : (tree : Tree Term) (key split : ℕ) (children : List ℕ) (node : Node Term) (above : Path) (t r : Term) (there : List Binding) (p : Posting) (head : Head) → IsInsertUnderway tree key t ((key, node) ∷ above) there → node.content ≡ inner split children → IsAmong there (split, r) → HasHead r head → ((other : ℕ) → IsChildBy tree key head other → ⊥) → MayComeIn tree t p → MayAddLeaf tree key there p
 may_add_leaf tree key split children node above t r there p head u content part h none may = record {
   node = node;
   above = above;
@@ -128,7 +128,7 @@ nothing_left next node new common rest_new there distinct may cut open_at n r u 
       kept : (cs : List Binding) → IsAmong (composed cs []) (n, r) → IsAmong cs (n, r)
       kept cs a = same cs (subst (λ l. IsAmong l (n, r)) (append-nil (carried cs [])) a)
 
-module _ (tree : Tree Term) (parent child split : ℕ) (children : List ℕ) (node child_node : Node Term) (above : Path) (t a b : Term) (there new others common rest_node rest_new : List Binding) (p : Posting) (legal : IsLegal tree) (u : IsUnderway tree parent t ((parent, node) ∷ above) there) (content : node.content ≡ inner split children) (has : HasNode tree child child_node) (below : child_node.parent ≡ Some parent) (part : IsAmong there (split, b)) (right : IsAmong child_node.bindings (split, a)) (same : same_head a b ≡ true) (open_at : AreOpenAt there (left_sides child_node.bindings) new) (room : tree.next + right_sizes child_node.bindings < 2 ^ 31) (cut : Splits tree.next child_node.bindings new common rest_node rest_new) (never : (fs : List Binding) → MakesAll fs there child_node.bindings → ⊥) (others_are : others ≡ without (left_sides child_node.bindings) there) (may : MayComeIn tree t p) where
+module _ (tree : Tree Term) (parent child split : ℕ) (children : List ℕ) (node child_node : Node Term) (above : Path) (t a b : Term) (there new others common rest_node rest_new : List Binding) (p : Posting) (legal : IsLegal tree) (u : IsInsertUnderway tree parent t ((parent, node) ∷ above) there) (content : node.content ≡ inner split children) (has : HasNode tree child child_node) (below : child_node.parent ≡ Some parent) (part : IsAmong there (split, b)) (right : IsAmong child_node.bindings (split, a)) (same : same_head a b ≡ true) (open_at : AreOpenAt there (left_sides child_node.bindings) new) (room : tree.next + right_sizes child_node.bindings < 2 ^ 31) (cut : Splits tree.next child_node.bindings new common rest_node rest_new) (never : (fs : List Binding) → MakesAll fs there child_node.bindings → ⊥) (others_are : others ≡ without (left_sides child_node.bindings) there) (may : MayComeIn tree t p) where
   abbrev path : Path
   path = (parent, node) ∷ above
 

@@ -14,7 +14,7 @@ use Rattle.si_tree.specs.declared.node.Head.TheVariants.{Sym, Var}
 use Rattle.si_tree.specs.Heads.{HasHead}
 use Rattle.si_tree.specs.Rights.{cell_head}
 use Rattle.si_insert.specs.declared.open.Opened.{Opened}
-use Rattle.si_insert.specs.Opened.{numbers, term_at, OpensAt, open_pairs}
+use Rattle.si_insert.specs.Opened.{numbers, term_at, BeginsAtPlace, open_pairs}
 use Rattle.si_insert.proofs.PassLaws.{open_among, one_opened, number_among}
 use Rattle.si_insert.proofs.FitTurns.{head_cell, first_cell, IsThere, there}
 use Rattle.si_insert.proofs.OpenPairs.{term_there}
@@ -51,7 +51,7 @@ told_head (terms.var (ind m)) head e = absurd cc
 pub stands_there : (cells : List Cell) (at : ℕ) (t : Term) (d : Cell) → StandsFor (term_at cells at) t → IsThere cells at t (drop (first_span (drop at cells)) (drop at cells)) d
 stands_there cells at t d stands = there cells at t (drop (first_span (drop at cells)) (drop at cells)) d stands.sound (sym (take-append-drop (first_span (drop at cells)) (drop at cells)) ∙ ap (λ l. l ++ drop (first_span (drop at cells)) (drop at cells)) stands.cells_are)
 
-pub part_there : (cells : List Cell) (all : List Opened) (there' : List Binding) (n at : ℕ) (t : Term) → AreDistinct (numbers all) → StandForBindings (open_pairs cells all) there' → IsAmong there' (n, t) → OpensAt all n at → StandsFor (term_at cells at) t
+pub part_there : (cells : List Cell) (all : List Opened) (there' : List Binding) (n at : ℕ) (t : Term) → AreDistinct (numbers all) → StandForBindings (open_pairs cells all) there' → IsAmong there' (n, t) → BeginsAtPlace all n at → StandsFor (term_at cells at) t
 part_there cells all there' n at t distinct stand among place =
     let o = open_among cells all there' n t stand among in
     let same : o.0 ≡ place.0 = one_opened all o.0 place.0 distinct o.1 place.1 (o.2 ∙ sym place.2) in

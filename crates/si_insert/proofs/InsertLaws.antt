@@ -36,7 +36,7 @@ use Rattle.si_tree.proofs.DecodingLaws.{bindings_read}
 use Rattle.si_insert.specs.declared.open.Opened.{Opened}
 use Rattle.si_insert.specs.Opened.{open_pairs}
 use Rattle.si_insert.specs.Inserting.{Inserts}
-use Rattle.si_insert.specs.Underway.{IsUnderway}
+use Rattle.si_insert.specs.Underway.{IsInsertUnderway}
 use Rattle.si_insert.specs.Walking.{IsAtInner, GivesHead}
 use Rattle.si_insert.proofs.UnderwayLaws.{at_leaf}
 use Rattle.si_insert.proofs.EndLaws.{may_add_leaf}
@@ -139,7 +139,7 @@ bindings_are : (tree : Tree Term) (cells : List Cell) (t : Term) (key : ℕ) (al
 bindings_are tree cells t key all bindings w e = ap bindings_of e ∙ bindings_read (open_pairs cells all) w.there w.holds.stand
 
 may_add : (tree : Tree Term) (cells : List Cell) (t : Term) (key split : ℕ) (all : List Opened) (p : Posting) (head : Head) → (w : Walk tree cells t key all) → (i : IsInner tree key split w.path w.there) → MayComeIn tree t p → HasHead i.part head → ((child : ℕ) → IsChildBy tree key head child → ⊥) → MayAddLeaf tree key w.there p
-may_add tree cells t key split all p head w i may has none = may_add_leaf tree key split i.children i.node i.above t i.part w.there p head (subst (λ q. IsUnderway tree key t q w.there) i.path_is w.underway) i.content i.among has none may
+may_add tree cells t key split all p head w i may has none = may_add_leaf tree key split i.children i.node i.above t i.part w.there p head (subst (λ q. IsInsertUnderway tree key t q w.there) i.path_is w.underway) i.content i.among has none may
 
 pub may_add_here : (tree : Tree Term) (cells : List Cell) (t : Term) (key split : ℕ) (all : List Opened) (p : Posting) (head : Head) (bindings : List CellPair) → (w : Walk tree cells t key all) → IsInner tree key split w.path w.there → MayComeIn tree t p → GivesHead cells all split head → ((child : ℕ) → IsChildBy tree key head child → ⊥) → bindings ≡ open_pairs cells all → MayAddLeaf tree key (bindings_of bindings) p
 may_add_here tree cells t key split all p head bindings w i may gives none e = subst (λ bs. MayAddLeaf tree key bs p) (sym (bindings_are tree cells t key all bindings w e)) (may_add tree cells t key split all p head w i may (gives w.there i.part w.holds.stand i.among) none)
@@ -192,7 +192,7 @@ leaf_found tree cells t key all legal w at = by h.node.content refl (at h.node h
   by (inner s children) e told = absurd (some (told ∙ ap split_of e)) where
     some : None ≡ Some s → ⊥
     some f = cc
-  by (leaf ps) e told = (ps, at_leaf tree key h.node h.above t w.there ps legal (subst (λ q. IsUnderway tree key t q w.there) h.path_is w.underway) e)
+  by (leaf ps) e told = (ps, at_leaf tree key h.node h.above t w.there ps legal (subst (λ q. IsInsertUnderway tree key t q w.there) h.path_is w.underway) e)
 
 pub may_post : (tree : Tree Term) (key : ℕ) (t : Term) (ps : List Posting) (p : Posting) → IsLeaf tree key t ps → MayComeIn tree t p → MayAddPosting tree key p
 may_post tree key t ps p is may = record {

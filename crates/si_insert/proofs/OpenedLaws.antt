@@ -10,7 +10,7 @@ use Rattle.std.proofs.lemmas.Bool.Decides.{eqb_tells}
 use Rattle.std.proofs.lemmas.Bool.{eq-eqb}
 use Rattle.si_defs.specs.Substitutions.{IsAmong, AreDistinct}
 use Rattle.si_insert.specs.declared.open.Opened.{Opened}
-use Rattle.si_insert.specs.Opened.{numbers, AreOpenedAt, with_bound}
+use Rattle.si_insert.specs.Opened.{numbers, AreListedFrom, with_bound}
 
 -- ---- a number is found
 pub record IsFound (places : List ℕ) (k : ℕ) (all : List Opened) (n : ℕ) : Type 0 where
@@ -23,7 +23,7 @@ pub record IsFound (places : List ℕ) (k : ℕ) (all : List Opened) (n : ℕ) :
   pub indicator : opened.indicator ≡ n
   pub among : IsAmong all opened
 
-pub found : (places : List ℕ) (k : ℕ) (all : List Opened) (n : ℕ) → AreOpenedAt places k all → IsAmong (numbers all) n → IsFound places k all n
+pub found : (places : List ℕ) (k : ℕ) (all : List Opened) (n : ℕ) → AreListedFrom places k all → IsAmong (numbers all) n → IsFound places k all n
 found places k [] n h among = absurd among
 found places k (o ∷ os) n h (inl e) = record {
   number = 0;
@@ -49,18 +49,18 @@ found places k (o ∷ os) n h (inr later) =
     }
 
 -- ---- the list grows and shrinks
-pub at_grown : (places more : List ℕ) (k : ℕ) (all : List Opened) → AreOpenedAt places k all → AreOpenedAt (places ++ more) k all
+pub at_grown : (places more : List ℕ) (k : ℕ) (all : List Opened) → AreListedFrom places k all → AreListedFrom (places ++ more) k all
 at_grown places more k [] h = tt
 at_grown places more k (o ∷ os) h = (get_front places more o.indicator k h.0, at_grown places more (suc k) os h.1)
 
-pub at_pushed : (places : List ℕ) (k at : ℕ) (all : List Opened) (o : Opened) → AreOpenedAt places k all → (IsAmong (numbers all) o.indicator → ⊥) → o.indicator < length places → at ≡ k + length all → AreOpenedAt (slice_set places o.indicator at) k (all ++ o ∷ [])
+pub at_pushed : (places : List ℕ) (k at : ℕ) (all : List Opened) (o : Opened) → AreListedFrom places k all → (IsAmong (numbers all) o.indicator → ⊥) → o.indicator < length places → at ≡ k + length all → AreListedFrom (slice_set places o.indicator at) k (all ++ o ∷ [])
 at_pushed places k at [] o h new less e = (set_same places o.indicator at less ∙ ap (λ m. Some m) (e ∙ add-zero k), tt)
 at_pushed places k at (p ∷ ps) o h new less e = (
   set_other places o.indicator p.indicator at (λ same. new (inl same)) ∙ h.0,
   at_pushed places (suc k) at ps o h.1 (λ among. new (inr among)) less (e ∙ omega arith),
 )
 
-pub at_taken : (places : List ℕ) (k m : ℕ) (all : List Opened) → AreOpenedAt places k all → AreOpenedAt places k (take m all)
+pub at_taken : (places : List ℕ) (k m : ℕ) (all : List Opened) → AreListedFrom places k all → AreListedFrom places k (take m all)
 at_taken places k zero all h = tt
 at_taken places k (suc m) [] h = tt
 at_taken places k (suc m) (o ∷ os) h = (h.0, at_taken places (suc k) m os h.1)
@@ -90,7 +90,7 @@ numbers-bound n (o ∷ os) = λ i. same (o.indicator == n) i ∷ numbers-bound n
   same true = refl
   same false = refl
 
-pub at_bound : (places : List ℕ) (k n : ℕ) (all : List Opened) → AreOpenedAt places k all → AreOpenedAt places k (with_bound n all)
+pub at_bound : (places : List ℕ) (k n : ℕ) (all : List Opened) → AreListedFrom places k all → AreListedFrom places k (with_bound n all)
 at_bound places k n [] h = tt
 at_bound places k n (o ∷ os) h = (same (o.indicator == n) h.0, at_bound places (suc k) n os h.1) where
   same : (b : Bool) → slice_get places o.indicator ≡ Some k → slice_get places (cond b (record o { bound = true }) o).indicator ≡ Some k
@@ -125,7 +125,7 @@ bound_there n (suc i) (p ∷ ps) o distinct item is =
 pub read : {X : Type 0} → (xs : List X) (i : ℕ) (x k : X) → x ≡ get_or xs i x → slice_get xs i ≡ Some k → x ≡ k
 read xs i x k e item = e ∙ get_or_from_slice_get xs i k x item
 
-pub found_in : (places : List ℕ) (opened now : List Opened) (n : ℕ) → AreOpenedAt places 0 opened → opened ≡ now → IsAmong (numbers now) n → IsFound places 0 opened n
+pub found_in : (places : List ℕ) (opened now : List Opened) (n : ℕ) → AreListedFrom places 0 opened → opened ≡ now → IsAmong (numbers now) n → IsFound places 0 opened n
 found_in places opened now n h e among = found places 0 opened n h (subst (λ l. IsAmong (numbers l) n) (sym e) among)
 
 -- what the table leads to is the number in the list

@@ -11,7 +11,7 @@ use Rattle.si_flat.proofs.Subterms.{length-cells_of}
 use Rattle.si_legal.specs.Bindings.{Binding, right_indicators, right_sizes, StandForBindings}
 use Rattle.si_changes.proofs.Borrowed.{bound_left}
 use Rattle.si_insert.specs.declared.open.Opened.{Opened}
-use Rattle.si_insert.specs.Opened.{numbers, OpensAt}
+use Rattle.si_insert.specs.Opened.{numbers, BeginsAtPlace}
 use Rattle.si_insert.specs.Passing.{MayPass}
 use Rattle.si_insert.specs.Parting.{right_lengths, AreOpenAt}
 use Rattle.si_insert.proofs.OpenPairs.{term_there}
@@ -79,7 +79,7 @@ give_next cells all node there bs p pairs given once may l = by l.rest l.all_are
         unbound = λ a. (distinct_parts (left_sides l.done) (left_sides (b ∷ rest)) distinct).2 p.0 (subst (λ q. IsAmong q p.0) (stand_lefts given l.new l.gives ∙ sym l.lefts) a) (inl (sym stand.0));
       }
 
-pub given_more : (cells : List Cell) (all : List Opened) (node : List CellPair) (there bs : List Binding) (p : CellPair) (pairs given more : List CellPair) (at : ℕ) (right : List Cell) → MayPass cells all node there bs → (n : NextToGive cells all there bs p pairs given) → OpensAt all p.0 at → right ≡ take (length right) (drop at cells) → IsWhole right → more ≡ given ++ (p.0, right) ∷ [] → LeftToGive cells all there bs pairs more
+pub given_more : (cells : List Cell) (all : List Opened) (node : List CellPair) (there bs : List Binding) (p : CellPair) (pairs given more : List CellPair) (at : ℕ) (right : List Cell) → MayPass cells all node there bs → (n : NextToGive cells all there bs p pairs given) → BeginsAtPlace all p.0 at → right ≡ take (length right) (drop at cells) → IsWhole right → more ≡ given ++ (p.0, right) ∷ [] → LeftToGive cells all there bs pairs more
 given_more cells all node there bs p pairs given more at right may n place e whole pushed = by l.rest l.all_are l.stand where
   l : LeftToGive cells all there bs (p ∷ pairs) given
   l = n.left
@@ -106,5 +106,5 @@ given_more cells all node there bs p pairs given more at right may n place e who
 pub opened_next : (cells : List Cell) (all : List Opened) (node : List CellPair) (there bs : List Binding) (p : CellPair) (pairs given : List CellPair) → MayPass cells all node there bs → NextToGive cells all there bs p pairs given → IsAmong (numbers all) p.0
 opened_next cells all node there bs p pairs given may n = was_opened cells all there p.0 n.part may.stand n.is_there
 
-pub next_within : (cells : List Cell) (all : List Opened) (node : List CellPair) (there bs : List Binding) (n at : ℕ) → MayPass cells all node there bs → OpensAt all n at → at < length cells
+pub next_within : (cells : List Cell) (all : List Opened) (node : List CellPair) (there bs : List Binding) (n at : ℕ) → MayPass cells all node there bs → BeginsAtPlace all n at → at < length cells
 next_within cells all node there bs n at may place = subst (λ k. k < length cells) place.3 (all_at (λ o. o.at < length cells) all place.0 may.within place.1)

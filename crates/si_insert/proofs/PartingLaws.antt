@@ -26,7 +26,7 @@ use Rattle.si_tree.proofs.DecodingLaws.{bindings_read}
 use Rattle.si_insert.specs.declared.open.Opened.{Opened}
 use Rattle.si_insert.specs.Opened.{numbers, AreWithin, open_pairs}
 use Rattle.si_insert.specs.Passing.{without, MakesAll, MayPass, CanPass, IsBoundBy}
-use Rattle.si_insert.specs.Underway.{IsUnderway}
+use Rattle.si_insert.specs.Underway.{IsInsertUnderway}
 use Rattle.si_insert.specs.Inserting.{Inserts}
 use Rattle.si_insert.specs.Parting.{right_lengths, AreOpenAt, GivesParts, MayPart}
 use Rattle.si_insert.proofs.PassLaws.{stand_lefts}
@@ -129,8 +129,8 @@ module _ (tree : Tree Term) (cells : List Cell) (all : List Opened) (child : ℕ
       path_is : m.path ≡ (m.key, m.by.node) ∷ above
       path_is = one_path tree (Some m.key) m.path ((m.key, m.by.node) ∷ above) m.underway.reached (refl, m.by.has, (m.legal.nodes m.key m.by.node m.by.has).reached)
 
-      underway : IsUnderway tree m.key m.term ((m.key, m.by.node) ∷ above) m.there
-      underway = subst (λ q. IsUnderway tree m.key m.term q m.there) path_is m.underway
+      underway : IsInsertUnderway tree m.key m.term ((m.key, m.by.node) ∷ above) m.there
+      underway = subst (λ q. IsInsertUnderway tree m.key m.term q m.there) path_is m.underway
 
       same : same_head below.right m.part ≡ true
       same = head_same below.right m.part m.head below.right_head m.has_head

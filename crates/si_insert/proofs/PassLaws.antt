@@ -14,7 +14,7 @@ use Rattle.si_changes.proofs.Borrowed.{bound_left}
 use Rattle.si_insert.proofs.OpenPairs.{distinct_lefts}
 use Rattle.si_changes.proofs.ComposeLaws.{same_applied, bound_front, bound_back, right_among}
 use Rattle.si_insert.specs.declared.open.Opened.{Opened}
-use Rattle.si_insert.specs.Opened.{numbers, term_at, AreWithin, OpensAt, open_pairs}
+use Rattle.si_insert.specs.Opened.{numbers, term_at, AreWithin, BeginsAtPlace, open_pairs}
 use Rattle.si_insert.specs.Fitting.{all_pairs, OpensFor, OpensFitting, MayFit, FitsThere, FitsNowhere}
 use Rattle.si_insert.specs.Passing.{MakesAll, FitAll, MayPass}
 
@@ -149,7 +149,7 @@ first_of cells old now node there bs p pairs may l = by l.rest l.stand l.lefts l
       }
 
 -- the place that is found for its left side is that of its part
-pub part_at : (cells : List Cell) (old now : List Opened) (node : List CellPair) (there bs : List Binding) (p : CellPair) (pairs : List CellPair) (at : ℕ) → MayPass cells old node there bs → (f : FirstOf cells old now there bs p pairs) → OpensAt now p.0 at → StandsFor (term_at cells at) f.part
+pub part_at : (cells : List Cell) (old now : List Opened) (node : List CellPair) (there bs : List Binding) (p : CellPair) (pairs : List CellPair) (at : ℕ) → MayPass cells old node there bs → (f : FirstOf cells old now there bs p pairs) → BeginsAtPlace now p.0 at → StandsFor (term_at cells at) f.part
 part_at cells old now node there bs p pairs at may f place =
     let o = open_among cells old there p.0 f.part may.stand f.is_there in
     let here : IsAmong now o.0 = subst (λ l. IsAmong l o.0) (sym f.opens.grows) (among_front old f.opens.others o.0 o.1) in
@@ -157,7 +157,7 @@ part_at cells old now node there bs p pairs at may f place =
     let same : o.0 ≡ place.0 = one_opened now o.0 place.0 distinct here place.1 (o.2 ∙ sym place.2) in
     subst (λ n. StandsFor (term_at cells n) f.part) (ap (λ q. q.at) same ∙ place.3) o.3
 
-pub place_within : (cells : List Cell) (old now : List Opened) (node : List CellPair) (there bs : List Binding) (n at : ℕ) (found : List Binding) → MayPass cells old node there bs → OpensFor cells old now found → OpensAt now n at → at < length cells
+pub place_within : (cells : List Cell) (old now : List Opened) (node : List CellPair) (there bs : List Binding) (n at : ℕ) (found : List Binding) → MayPass cells old node there bs → OpensFor cells old now found → BeginsAtPlace now n at → at < length cells
 place_within cells old now node there bs n at found may opens place =
     let all : AreWithin cells now = subst (AreWithin cells) (sym opens.grows) (all_append (λ q. q.at < length cells) old opens.others may.within opens.within) in
     subst (λ k. k < length cells) place.3 (all_at (λ q. q.at < length cells) now place.0 all place.1)
@@ -175,7 +175,7 @@ may_fit cells old now there bs p pairs f = record {
   distinct = (distinct_parts (numbers now ++ indicators f.right) (right_indicators f.rest) (subst AreDistinct (sym (append_assoc (numbers now) (indicators f.right) (right_indicators f.rest))) f.distinct)).0;
 }
 
-pub passed_one : (cells : List Cell) (old now new : List Opened) (node : List CellPair) (there bs : List Binding) (p : CellPair) (pairs : List CellPair) (at : ℕ) → MayPass cells old node there bs → (f : FirstOf cells old now there bs p pairs) → OpensAt now p.0 at → FitsThere now p.1 cells at new → LeftToPass cells old new there bs pairs
+pub passed_one : (cells : List Cell) (old now new : List Opened) (node : List CellPair) (there bs : List Binding) (p : CellPair) (pairs : List CellPair) (at : ℕ) → MayPass cells old node there bs → (f : FirstOf cells old now there bs p pairs) → BeginsAtPlace now p.0 at → FitsThere now p.1 cells at new → LeftToPass cells old new there bs pairs
 passed_one cells old now new node there bs p pairs at may f place fits = by (fits f.right f.part f.stands (part_at cells old now node there bs p pairs at may f place)) where
   apart : AreDistinct (indicators f.right ++ right_indicators f.rest)
   apart = (distinct_parts (numbers now) (indicators f.right ++ right_indicators f.rest) f.distinct).1
@@ -206,6 +206,6 @@ passed_one cells old now new node there bs p pairs at may f place fits = by (fit
       ];
     }
 
-pub never_one : (cells : List Cell) (old now : List Opened) (node : List CellPair) (there bs : List Binding) (p : CellPair) (pairs : List CellPair) (at : ℕ) → MayPass cells old node there bs → (f : FirstOf cells old now there bs p pairs) → OpensAt now p.0 at → FitsNowhere p.1 cells at → (fs : List Binding) → MakesAll fs there bs → ⊥
+pub never_one : (cells : List Cell) (old now : List Opened) (node : List CellPair) (there bs : List Binding) (p : CellPair) (pairs : List CellPair) (at : ℕ) → MayPass cells old node there bs → (f : FirstOf cells old now there bs p pairs) → BeginsAtPlace now p.0 at → FitsNowhere p.1 cells at → (fs : List Binding) → MakesAll fs there bs → ⊥
 never_one cells old now node there bs p pairs at may f place nowhere fs makes =
     nowhere f.right f.part fs f.stands (part_at cells old now node there bs p pairs at may f place) (f.given fs makes p.0 f.right f.part (inl refl) f.is_there)

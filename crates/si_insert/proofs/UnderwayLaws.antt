@@ -24,11 +24,11 @@ use Rattle.si_changes.proofs.OpenLaws.{open_opened}
 use Rattle.si_changes.proofs.NewLeaves.{counted}
 use Rattle.si_insert.specs.declared.open.Opened.{Opened}
 use Rattle.si_insert.specs.Passing.{without, MayPass, Passes}
-use Rattle.si_insert.specs.Underway.{IsUnderway, HoldsOpened}
+use Rattle.si_insert.specs.Underway.{IsInsertUnderway, HoldsOpened}
 use Rattle.si_insert.proofs.StepLaws.{gives_after, binds_after}
 
 -- ---- the start
-pub underway_at_root : (tree : Tree Term) (t : Term) (legal : IsLegal tree) → IsUnderway tree tree.root t ((tree.root, legal.root.0) ∷ []) ((0, t) ∷ [])
+pub underway_at_root : (tree : Tree Term) (t : Term) (legal : IsLegal tree) → IsInsertUnderway tree tree.root t ((tree.root, legal.root.0) ∷ []) ((0, t) ∷ [])
 underway_at_root tree t legal =
     let node = legal.root.0 in
     let root = legal.root.2 in
@@ -54,7 +54,7 @@ holds_at_root tree cells t legal stands = record {
 pub child_path : (tree : Tree Term) (key child : ℕ) (node : Node Term) (path : Path) → IsLegal tree → IsPath tree (Some key) path → HasNode tree child node → node.parent ≡ Some key → (legal : IsLegalNode tree child node) → legal.above ≡ path
 child_path tree key child node path legal reached has below h = one_path tree (Some key) h.above path (subst (λ k. IsPath tree k h.above) below h.reached) reached
 
-pub may_pass : (tree : Tree Term) (key child : ℕ) (node : Node Term) (path : Path) (t : Term) (there : List Binding) (cells : List Cell) (all : List Opened) (pairs : List CellPair) → IsLegal tree → IsUnderway tree key t path there → HoldsOpened cells all path there → HasNode tree child node → node.parent ≡ Some key → StandForBindings pairs node.bindings → MayPass cells all pairs there node.bindings
+pub may_pass : (tree : Tree Term) (key child : ℕ) (node : Node Term) (path : Path) (t : Term) (there : List Binding) (cells : List Cell) (all : List Opened) (pairs : List CellPair) → IsLegal tree → IsInsertUnderway tree key t path there → HoldsOpened cells all path there → HasNode tree child node → node.parent ≡ Some key → StandForBindings pairs node.bindings → MayPass cells all pairs there node.bindings
 may_pass tree key child node path t there cells all pairs legal u h has below stand =
     let k = legal.nodes child node has in
     let same = child_path tree key child node path legal u.reached has below k in
@@ -68,10 +68,10 @@ may_pass tree key child node path t there cells all pairs legal u h has below st
 
 pub record Step (tree : Tree Term) (child : ℕ) (node : Node Term) (path : Path) (t : Term) (cells : List Cell) (new : List Opened) : Type 0 where
   pub there : List Binding
-  pub underway : IsUnderway tree child t ((child, node) ∷ path) there
+  pub underway : IsInsertUnderway tree child t ((child, node) ∷ path) there
   pub holds : HoldsOpened cells new ((child, node) ∷ path) there
 
-pub stepped : (tree : Tree Term) (key child : ℕ) (node : Node Term) (path : Path) (t : Term) (there fs : List Binding) (cells : List Cell) (all new : List Opened) → IsLegal tree → IsUnderway tree key t path there → HoldsOpened cells all path there → HasNode tree child node → node.parent ≡ Some key → Passes cells all new there node.bindings fs → Step tree child node path t cells new
+pub stepped : (tree : Tree Term) (key child : ℕ) (node : Node Term) (path : Path) (t : Term) (there fs : List Binding) (cells : List Cell) (all new : List Opened) → IsLegal tree → IsInsertUnderway tree key t path there → HoldsOpened cells all path there → HasNode tree child node → node.parent ≡ Some key → Passes cells all new there node.bindings fs → Step tree child node path t cells new
 stepped tree key child node path t there fs cells all new legal u h has below passes =
     let k = legal.nodes child node has in
     let same = child_path tree key child node path legal u.reached has below k in
@@ -123,7 +123,7 @@ mutual
   all_stay_whole (terms.more t ts) = λ i. terms.more (stays_whole t i) (all_stay_whole ts i)
 
 -- at a leaf the path's term is the term
-pub at_leaf : (tree : Tree Term) (key : ℕ) (node : Node Term) (above : Path) (t : Term) (there : List Binding) (ps : List Posting) → IsLegal tree → IsUnderway tree key t ((key, node) ∷ above) there → node.content ≡ leaf ps → IsLeaf tree key t ps
+pub at_leaf : (tree : Tree Term) (key : ℕ) (node : Node Term) (above : Path) (t : Term) (there : List Binding) (ps : List Posting) → IsLegal tree → IsInsertUnderway tree key t ((key, node) ∷ above) there → node.content ≡ leaf ps → IsLeaf tree key t ps
 at_leaf tree key node above t there ps legal u content =
     let k = legal.nodes key node u.reached.1 in
     let same : k.above ≡ above = one_path tree node.parent k.above above k.reached u.reached.2 in

@@ -16,7 +16,7 @@ use Rattle.si_tree.specs.declared.node.Head.{Head}
 use Rattle.si_tree.specs.Heads.{HasHead, IsChildBy}
 use Rattle.si_insert.specs.declared.open.Opened.{Opened}
 use Rattle.si_insert.specs.Passing.{Passes}
-use Rattle.si_insert.specs.Underway.{IsUnderway, HoldsOpened}
+use Rattle.si_insert.specs.Underway.{IsInsertUnderway, HoldsOpened}
 use Rattle.si_insert.proofs.UnderwayLaws.{underway_at_root, holds_at_root, stepped}
 
 -- ---- a path, found from its end
@@ -43,7 +43,7 @@ found_path (suc n) tree key (step ∷ p) reached few =
 pub record Walk (tree : Tree Term) (cells : List Cell) (t : Term) (key : ℕ) (all : List Opened) : Type 0 where
   pub path : Path
   pub there : List Binding
-  pub underway : IsUnderway tree key t path there
+  pub underway : IsInsertUnderway tree key t path there
   pub holds : HoldsOpened cells all path there
   pub long : length path ≤ 1 + weight (path_term path)
 

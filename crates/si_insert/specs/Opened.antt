@@ -10,14 +10,14 @@ abbrev pub numbers : List Opened → List ℕ
 numbers all = map (λ o. o.indicator) all
 
 -- the table leads from each number to its place in the list, counted on from this one
-abbrev pub AreOpenedAt : List ℕ → ℕ → List Opened → Type 0
-AreOpenedAt places k [] = Unit {0}
-AreOpenedAt places k (o ∷ os) =
-    (slice_get places o.indicator ≡ Some k) × AreOpenedAt places (suc k) os
+abbrev pub AreListedFrom : List ℕ → ℕ → List Opened → Type 0
+AreListedFrom places k [] = Unit {0}
+AreListedFrom places k (o ∷ os) =
+    (slice_get places o.indicator ≡ Some k) × AreListedFrom places (suc k) os
 
 -- what the indicator stands for begins there
-abbrev pub OpensAt : List Opened → ℕ → ℕ → Type 0
-OpensAt all n at = (o : Opened) × IsAmong all o × (o.indicator ≡ n) × (o.at ≡ at)
+abbrev pub BeginsAtPlace : List Opened → ℕ → ℕ → Type 0
+BeginsAtPlace all n at = (o : Opened) × IsAmong all o × (o.indicator ≡ n) × (o.at ≡ at)
 
 abbrev pub with_bound : ℕ → List Opened → List Opened
 with_bound n all = map (λ o. cond (o.indicator == n) (record o { bound = true }) o) all

@@ -13,7 +13,7 @@ use Rattle.si_tree.specs.declared.node.Head.{Head}
 use Rattle.si_tree.specs.Heads.{HasHead, IsChildBy}
 use Rattle.si_insert.specs.declared.open.Opened.{Opened}
 use Rattle.si_insert.specs.Passing.{MakesAll, MayPass}
-use Rattle.si_insert.specs.Underway.{IsUnderway, HoldsOpened}
+use Rattle.si_insert.specs.Underway.{IsInsertUnderway, HoldsOpened}
 
 -- the number of cells on the right sides
 abbrev pub right_lengths : List CellPair → ℕ
@@ -41,7 +41,7 @@ pub record MayPart (tree : Tree Term) (cells : List Cell) (all : List Opened) (c
   pub key : ℕ
   pub path : Path
   pub there : List Binding
-  pub underway : IsUnderway tree key term path there
+  pub underway : IsInsertUnderway tree key term path there
   pub holds : HoldsOpened cells all path there
   pub head : Head
   pub by : IsChildBy tree key head child

@@ -9,8 +9,8 @@ use Rattle.si_legal.specs.Legal.{IsOpenBelow}
 use Rattle.si_insert.specs.declared.open.Opened.{Opened}
 use Rattle.si_insert.specs.Opened.{numbers, AreWithin, open_pairs}
 
-pub record IsUnderway (tree : Tree Term) (key : ℕ) (t : Term) (path : Path) (there : List Binding)
-    : Type 0 where
+pub record IsInsertUnderway (tree : Tree Term) (key : ℕ) (t : Term) (path : Path)
+    (there : List Binding) : Type 0 where
   pub reached : IsPath tree (Some key) path
   pub binds : BindsExactly (IsOpenBelow path) there
   pub gives : applied there (path_term path) ≡ t

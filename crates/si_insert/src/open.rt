@@ -2,7 +2,7 @@
 ghost use Rattle.std.specs.Prelude.{◌≡◌, ◌<◌, ◌≤◌, [], ◌∷◌, ◌++◌, false, IfOk, OnOk, OnErr, length, take};
 ghost use Rattle.si_defs.specs.Substitutions.{IsAmong};
 ghost use Rattle.si_flat.specs.Cells.{IsWhole};
-ghost use Rattle.si_insert.specs.Opened.{numbers, OpensAt, with_bound, open_pairs, AreWithin};
+ghost use Rattle.si_insert.specs.Opened.{numbers, BeginsAtPlace, with_bound, open_pairs, AreWithin};
 
 use si_flat::{Bindings, reach, sub};
 use std::alloc::{AllocError, Global};
@@ -33,13 +33,13 @@ impl Model for Openings {
     ghost use Rattle.std.specs.Prelude.{List};
     ghost use Rattle.si_defs.specs.Substitutions.{AreDistinct};
     ghost use Rattle.si_insert.specs.declared.open.Opened.{Opened as Seen};
-    ghost use Rattle.si_insert.specs.Opened.{numbers, AreOpenedAt};
+    ghost use Rattle.si_insert.specs.Opened.{numbers, AreListedFrom};
 
     ghost Value = { List Seen };
 
     ghost view = { λ o. o.opened.items };
 
-    ghost invariant = { λ o. AreOpenedAt o.places.items 0 o.opened.items
+    ghost invariant = { λ o. AreListedFrom o.places.items 0 o.opened.items
         × AreDistinct (numbers o.opened.items) };
 }
 
@@ -97,7 +97,7 @@ impl Openings {
     /// The place of what an indicator stands for.
     pub(crate) fn at(&self, indicator: u32) -> usize
         requires { IsAmong (numbers self.now) indicator }
-        ensures { OpensAt self.now indicator result }
+        ensures { BeginsAtPlace self.now indicator result }
     {
         self.opened[self.places[indicator as usize]].at
     }

@@ -1,5 +1,5 @@
-//! The run over the words of the program's call and the whole input: `serve`, whose contract says
-//! what the program writes.
+//! A run: `serve`, from the words of the program's call and the whole input to what is written and
+//! a status, and `decline`, for words that couldn't be gathered.
 #![tactic(auto)]
 
 mod lines;

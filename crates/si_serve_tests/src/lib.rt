@@ -1,5 +1,5 @@
 //! Tests of whole runs, over sources, sinks and libraries in memory. They stand in a crate of their
-//! own, for the reasons that si_tests has.
+//! own: beside si_serve its functions would be proved once more with them.
 #![tactic(auto)]
 
 #[cfg(test)]

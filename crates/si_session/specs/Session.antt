@@ -120,10 +120,10 @@ behind_owed owed counts = record {
 }
 
 -- Exactly what is owed to the library was counted. A failure is owed only where it may fail.
-pub record HasCountedOwed (may_fail : Bool) (owed : Owed) (before now : LibraryCounts) : Type 0
-  where
-    pub counts : now ≡ behind_owed owed before
-    pub sure : IsFalse may_fail → owed.failures ≡ 0
+pub record HasCountedOwed (may_fail : Bool) (owed : Owed) (before now : LibraryCounts)
+    : Type 0 where
+  pub counts : now ≡ behind_owed owed before
+  pub sure : IsFalse may_fail → owed.failures ≡ 0
 
 -- what a sink and a library show before a call, or after it
 pub record Around : Type 0 where

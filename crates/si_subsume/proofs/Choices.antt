@@ -16,7 +16,7 @@ use Rattle.si_trail.specs.Trails.{Trail}
 use Rattle.si_unify.specs.declared.slots.Slots.{Slots}
 use Rattle.si_unify.specs.Solving.{Pairs, Equalizes, IsBinding, RanksBelow, IsSolution, HaveCommon, AllowsSolving}
 use Rattle.si_subsume.specs.declared.search.Choice.{Choice}
-use Rattle.si_subsume.specs.Search.{Slices, CanEnd, number_from_one, IsLeastSearch, IsChosen, AreChosen, AreTried, IsUnderway, IsDead, NextNumber, GoesOnFrom, FindsTarget, IsFirstTarget}
+use Rattle.si_subsume.specs.Search.{Slices, CanEnd, number_from_one, IsLeastSearch, IsChosen, WereChosen, AreTried, IsUnderwayFrom, IsDead, NextNumber, GoesOnFrom, FindsTarget, IsFirstTarget}
 
 pub compare : (m n : ℕ) → (m < n) ⊎ ((m ≡ n) ⊎ (n < m))
 compare zero zero = inr (inl refl)
@@ -53,9 +53,9 @@ module _ (slots : Slots) (targets : Slices) where
 
   -- ---- the last choice
   pub pushed : (old : Pairs) (literals : Slices) (choices : List Choice) (literal : Bor (List Cell)) (rest : Slices) (new next : Pairs) (choice : Choice)
-      → AreChosen slots targets old literals choices (literal ∷ rest) new
+      → WereChosen slots targets old literals choices (literal ∷ rest) new
       → IsChosen slots targets new next literal rest choice
-      → AreChosen slots targets old literals (choices ++ choice ∷ []) rest next
+      → WereChosen slots targets old literals (choices ++ choice ∷ []) rest next
   pushed old [] [] literal rest new next choice h chosen = absurd (let e : literal ∷ rest ≡ [] = h.0 in cc)
   pushed old (l ∷ ls) [] literal rest new next choice h chosen =
       let e : literal ∷ rest ≡ l ∷ ls = h.0 in
@@ -71,11 +71,11 @@ module _ (slots : Slots) (targets : Slices) where
   pub record IsLast (old : Pairs) (literals : Slices) (choices : List Choice) (left : Slices) (new : Pairs) (choice : Choice) : Type 0 where
     pub before : Pairs
     pub literal : Bor (List Cell)
-    pub chosen_before : AreChosen slots targets old literals choices (literal ∷ left) before
+    pub chosen_before : WereChosen slots targets old literals choices (literal ∷ left) before
     pub chosen : IsChosen slots targets before new literal left choice
 
   pub popped : (old : Pairs) (literals : Slices) (choices : List Choice) (left : Slices) (new : Pairs) (choice : Choice)
-      → AreChosen slots targets old literals (choices ++ choice ∷ []) left new
+      → WereChosen slots targets old literals (choices ++ choice ∷ []) left new
       → IsLast old literals choices left new choice
   popped old [] [] left new choice h = absurd h
   popped old (l ∷ ls) [] left new choice h = record {
@@ -90,18 +90,18 @@ module _ (slots : Slots) (targets : Slices) where
       record { before = r.before; literal = r.literal; chosen_before = (h.0, h.1, r.chosen_before); chosen = r.chosen }
 
   -- ---- what is left
-  left_is : (old : Pairs) (literals : Slices) (choices : List Choice) (left : Slices) (new : Pairs) → AreChosen slots targets old literals choices left new → left ≡ drop (length choices) literals
+  left_is : (old : Pairs) (literals : Slices) (choices : List Choice) (left : Slices) (new : Pairs) → WereChosen slots targets old literals choices left new → left ≡ drop (length choices) literals
   left_is old literals [] left new h = h.0
   left_is old [] (c ∷ choices) left new h = absurd h
   left_is old (l ∷ ls) (c ∷ choices) left new h = left_is h.0 ls choices left new h.2
 
   pub next_literal : (old : Pairs) (literals : Slices) (choices : List Choice) (left : Slices) (new : Pairs) (d : Bor (List Cell))
-      → AreChosen slots targets old literals choices left new
+      → WereChosen slots targets old literals choices left new
       → length choices < length literals
       → left ≡ get_or literals (length choices) d ∷ drop (suc (length choices)) literals
   next_literal old literals choices left new d h some = left_is old literals choices left new h ∙ drop-cons literals (length choices) d some
 
-  pub none_left : (old : Pairs) (literals : Slices) (choices : List Choice) (left : Slices) (new : Pairs) → AreChosen slots targets old literals choices left new → length literals ≤ length choices → left ≡ []
+  pub none_left : (old : Pairs) (literals : Slices) (choices : List Choice) (left : Slices) (new : Pairs) → WereChosen slots targets old literals choices left new → length literals ≤ length choices → left ≡ []
   none_left old literals choices left new h all = left_is old literals choices left new h ∙ drop_of_length-le literals all
 
   -- ---- after a target was looked for
@@ -172,7 +172,7 @@ module _ (slots : Slots) (targets : Slices) where
 
   -- ---- when a target was chosen for each literal
   pub taken : (old : Pairs) (literals : Slices) (choices : List Choice) (new : Pairs) (s : Substitution Symbol Variable)
-      → AreChosen slots targets old literals choices [] new
+      → WereChosen slots targets old literals choices [] new
       → IsSolution slots new s
       → IsSolution slots old s × AreImages (TakesTo s) targets literals (map number_from_one choices)
   taken old [] [] new s h solves = (subst (λ p. IsSolution slots p s) h.1 solves, tt)
@@ -184,7 +184,7 @@ module _ (slots : Slots) (targets : Slices) where
       (here.0, ((h.1.target, h.1.target_is, here.1), later.1))
 
   pub least : (old : Pairs) (literals : Slices) (choices : List Choice) (new : Pairs) (ms : List ℕ)
-      → AreChosen slots targets old literals choices [] new
+      → WereChosen slots targets old literals choices [] new
       → CanEnd slots targets old literals ms
       → IsNoLater (map number_from_one choices) ms
   least old literals [] new ms h can = tt
@@ -206,24 +206,24 @@ module _ (slots : Slots) (targets : Slices) where
       ]
 
   solvable : (old : Pairs) (literals : Slices) (choices : List Choice) (left : Slices) (new : Pairs)
-      → AreChosen slots targets old literals choices left new
+      → WereChosen slots targets old literals choices left new
       → (s : Substitution Symbol Variable) × IsSolution slots old s
       → (s : Substitution Symbol Variable) × IsSolution slots new s
   solvable old literals [] left new h some = subst (λ p. (s : Substitution Symbol Variable) × IsSolution slots p s) (sym h.1) some
   solvable old [] (c ∷ choices) left new h some = absurd h
   solvable old (l ∷ ls) (c ∷ choices) left new h some = solvable h.0 ls choices left new h.2 h.1.solved
 
-  all_inside : (old : Pairs) (literals : Slices) (choices : List Choice) (left : Slices) (new : Pairs) → AreChosen slots targets old literals choices left new → AllByRecursion (λ choice. choice.number < length targets) choices
+  all_inside : (old : Pairs) (literals : Slices) (choices : List Choice) (left : Slices) (new : Pairs) → WereChosen slots targets old literals choices left new → AllByRecursion (λ choice. choice.number < length targets) choices
   all_inside old literals [] left new h = tt
   all_inside old [] (c ∷ choices) left new h = absurd h
   all_inside old (l ∷ ls) (c ∷ choices) left new h = (slice_get_within targets c.number h.1.target h.1.target_is, all_inside h.0 ls choices left new h.2)
 
   pub least_found : (literals : Slices) (choices : List Choice) (left : Slices) (new : Pairs)
-      → AreChosen slots targets [] literals choices left new
+      → WereChosen slots targets [] literals choices left new
       → length literals ≤ length choices
       → IsLeastSearch slots literals targets choices
   least_found literals choices left new h all =
-      let full = subst (λ ks. AreChosen slots targets [] literals choices ks new) (none_left [] literals choices left new h all) h in
+      let full = subst (λ ks. WereChosen slots targets [] literals choices ks new) (none_left [] literals choices left new h all) h in
       let solution = solvable [] literals choices left new h ([], record { frozen = λ x frozen. refl; equal = tt }) in
       let maps = taken [] literals choices new solution.0 full solution.1 in
       record {
@@ -242,7 +242,7 @@ pub record IsDeadLast (slots : Slots) (targets literals : Slices) (choices : Lis
 module _ (slots : Slots) (targets literals : Slices) (pairs : Pairs) where
   pub dead_last : (all choices : List Choice) (choice : Choice) → IsDead slots targets literals all pairs → all ≡ choices ++ choice ∷ [] → IsDeadLast slots targets literals choices choice pairs
   dead_last all choices choice h is =
-      let last = popped slots targets [] literals choices h.0 pairs choice (subst (λ cs. AreChosen slots targets [] literals cs h.0 pairs) is h.1) in
+      let last = popped slots targets [] literals choices h.0 pairs choice (subst (λ cs. WereChosen slots targets [] literals cs h.0 pairs) is h.1) in
       record {
         left = h.0;
         last = last;
@@ -253,7 +253,7 @@ module _ (slots : Slots) (targets literals : Slices) (pairs : Pairs) where
 
   pub dead_start : (all : List Choice) → IsDead slots targets literals all pairs → all ≡ [] → (ns : List ℕ) → CanEnd slots targets [] literals ns → ⊥
   dead_start all h is ns can =
-      let start : AreChosen slots targets [] literals [] h.0 pairs = subst (λ cs. AreChosen slots targets [] literals cs h.0 pairs) is h.1 in
+      let start : WereChosen slots targets [] literals [] h.0 pairs = subst (λ cs. WereChosen slots targets [] literals cs h.0 pairs) is h.1 in
       h.2 ns (subst (λ p. CanEnd slots targets p h.0 ns) (sym start.1) (subst (λ ks. CanEnd slots targets [] ks ns) (sym start.0) can))
 
   pub retreated : (all choices : List Choice) (choice : Choice) (mark next : ℕ) (undone : Pairs) (from : ℕ)
@@ -267,7 +267,7 @@ module _ (slots : Slots) (targets literals : Slices) (pairs : Pairs) where
       let d = dead_last all choices choice h is in
       let back : undone ≡ d.last.before = undone_is ∙ bound_before d.last.before pairs choice.mark d.last.chosen.grows d.last.chosen.mark in
       let tried = tried_again slots targets d.last.before pairs d.last.literal d.left choice (length targets) next d.last.chosen d.dead (subst (λ k. NextNumber choice k (length targets) next) mark_is number) in (
-        subst (λ p. IsUnderway slots targets literals choices p next) (sym back) (d.last.literal ∷ d.left, d.last.chosen_before, tried),
+        subst (λ p. IsUnderwayFrom slots targets literals choices p next) (sym back) (d.last.literal ∷ d.left, d.last.chosen_before, tried),
         inr (choice, is, number.0),
       )
 
@@ -284,7 +284,7 @@ module _ (slots : Slots) (targets literals : Slices) (pairs : Pairs) where
 
 -- ---- a turn
 module _ (slots : Slots) (targets literals : Slices) (choices : List Choice) (old new : Pairs) (from number : ℕ) (d : Bor (List Cell))
-    (h : IsUnderway slots targets literals choices old from) (some : length choices < length literals) (number_is : number ≡ length choices) where
+    (h : IsUnderwayFrom slots targets literals choices old from) (some : length choices < length literals) (number_is : number ≡ length choices) where
   abbrev here : Bor (List Cell)
   here = get_or literals number d
 
@@ -294,8 +294,8 @@ module _ (slots : Slots) (targets literals : Slices) (choices : List Choice) (ol
   split : h.0 ≡ here ∷ rest
   split = next_literal slots targets [] literals choices h.0 old d h.1 some ∙ ap (λ k. get_or literals k d ∷ rest) (sym number_is)
 
-  chosen_here : AreChosen slots targets [] literals choices (here ∷ rest) old
-  chosen_here = subst (λ ks. AreChosen slots targets [] literals choices ks old) split h.1
+  chosen_here : WereChosen slots targets [] literals choices (here ∷ rest) old
+  chosen_here = subst (λ ks. WereChosen slots targets [] literals choices ks old) split h.1
 
   tried_here : AreTried slots targets old (here ∷ rest) from
   tried_here = subst (λ ks. AreTried slots targets old ks from) split h.2
@@ -303,7 +303,7 @@ module _ (slots : Slots) (targets literals : Slices) (choices : List Choice) (ol
   pub turn_dead : FindsTarget slots targets old new here.now from None → IsDead slots targets literals choices new
   turn_dead found = (
     here ∷ rest,
-    subst (AreChosen slots targets [] literals choices (here ∷ rest)) (sym found.0) chosen_here,
+    subst (WereChosen slots targets [] literals choices (here ∷ rest)) (sym found.0) chosen_here,
     λ ns can. dead_without slots targets old new here rest from tried_here found ns (subst (λ p. CanEnd slots targets p (here ∷ rest) ns) found.0 can),
   )
 
@@ -314,19 +314,19 @@ module _ (slots : Slots) (targets literals : Slices) (choices : List Choice) (ol
       → GoesOnFrom slots literals targets choices from after new (Some 0)
   turn_chosen choice after found mark is =
       let chosen = pushed slots targets [] literals choices here rest old new choice chosen_here (chosen_with slots targets old new here rest from choice tried_here found mark) in (
-        (rest, subst (λ cs. AreChosen slots targets [] literals cs rest new) (sym is) chosen, λ n ns less can. omega (arith, less)),
+        (rest, subst (λ cs. WereChosen slots targets [] literals cs rest new) (sym is) chosen, λ n ns less can. omega (arith, less)),
         inl (choice, is, found.at_least, slice_get_within targets choice.number found.target found.target_is, refl),
       )
 
 -- ---- the whole search
 pub record IsChoosing (slots : Slots) (targets literals : Slices) (choices : List Choice) (trail : Trail (Bor (List Cell))) (from : ℕ) : Type 0 where
-  pub underway : IsUnderway slots targets literals choices trail.pairs from
+  pub underway : IsUnderwayFrom slots targets literals choices trail.pairs from
   pub ready : AllowsSolving slots trail.pairs trail.slots
 
 pub searching_start : (slots : Slots) (targets literals : Slices) (trail : Trail (Bor (List Cell))) (choices : List Choice) → trail.pairs ≡ [] → choices ≡ [] → AllowsSolving slots trail.pairs trail.slots → IsChoosing slots targets literals choices trail 0
 searching_start slots targets literals trail choices unbound none ready = record {
   underway =
-      subst (λ cs. IsUnderway slots targets literals cs trail.pairs 0) (sym none)
+      subst (λ cs. IsUnderwayFrom slots targets literals cs trail.pairs 0) (sym none)
       (literals, (refl, unbound), λ n ns less can. omega (arith, less));
   ready = ready;
 }

@@ -78,26 +78,26 @@ pub record IsChosen (slots : Slots) (targets : Slices) (old new : Pairs) (litera
 module _ (slots : Slots) (targets : Slices) where
   -- These choices were made one after the other, from the old bindings to the new ones. Of the
   -- literals so many are left.
-  abbrev pub AreChosen : Pairs → Slices → List Choice → Slices → Pairs → Type 0
-  AreChosen old literals [] left new = (left ≡ literals) × (new ≡ old)
-  AreChosen old [] (choice ∷ choices) left new = ⊥
-  AreChosen old (literal ∷ rest) (choice ∷ choices) left new =
+  abbrev pub WereChosen : Pairs → Slices → List Choice → Slices → Pairs → Type 0
+  WereChosen old literals [] left new = (left ≡ literals) × (new ≡ old)
+  WereChosen old [] (choice ∷ choices) left new = ⊥
+  WereChosen old (literal ∷ rest) (choice ∷ choices) left new =
       (next : Pairs) × IsChosen slots targets old next literal rest choice
-      × AreChosen next rest choices left new
+      × WereChosen next rest choices left new
 
   -- no target below is of use for the next literal
   abbrev pub AreTried : Pairs → Slices → ℕ → Type 0
   AreTried pairs left from = (n : ℕ) (ns : List ℕ) → n < from
       → CanEnd slots targets pairs left (suc n ∷ ns) → ⊥
 
-  abbrev pub IsUnderway : Slices → List Choice → Pairs → ℕ → Type 0
-  IsUnderway literals choices pairs from =
-      (left : Slices) × AreChosen [] literals choices left pairs × AreTried pairs left from
+  abbrev pub IsUnderwayFrom : Slices → List Choice → Pairs → ℕ → Type 0
+  IsUnderwayFrom literals choices pairs from =
+      (left : Slices) × WereChosen [] literals choices left pairs × AreTried pairs left from
 
   -- the choices can't be completed
   abbrev pub IsDead : Slices → List Choice → Pairs → Type 0
   IsDead literals choices pairs =
-      (left : Slices) × AreChosen [] literals choices left pairs
+      (left : Slices) × WereChosen [] literals choices left pairs
       × ((ns : List ℕ) → CanEnd slots targets pairs left ns → ⊥)
 
 -- ---- one turn
@@ -121,7 +121,8 @@ abbrev pub GoesOnFrom : Slots → Slices → Slices → (old : List Choice) → 
 GoesOnFrom slots literals targets old from new pairs None = (ns : List ℕ)
     → CanEnd slots targets [] literals ns → ⊥
 GoesOnFrom slots literals targets old from new pairs (Some next) =
-    IsUnderway slots targets literals new pairs next × TakesTurn (length targets) old from new next
+    IsUnderwayFrom slots targets literals new pairs next
+    × TakesTurn (length targets) old from new next
 
 -- ---- one literal
 -- the first target from a number on to which the literal can be taken, and none below

@@ -7,7 +7,7 @@ use Rattle.si_unify.specs.Solving.{Pairs}
 use Rattle.si_subsume.specs.declared.search.Choice.{Choice}
 use Rattle.si_subsume.specs.declared.search.Task.{Task}
 use Rattle.si_subsume.specs.Heads.{slice_head, IsIndexOf, HasTargetByHead, TakesFrom}
-use Rattle.si_subsume.specs.Search.{AreFlatLiterals, FindsTarget, IsUnderway, IsDead, GoesOnFrom, AnswersSearch, AnswersSlices}
+use Rattle.si_subsume.specs.Search.{AreFlatLiterals, FindsTarget, IsUnderwayFrom, IsDead, GoesOnFrom, AnswersSearch, AnswersSlices}
 
 -- the literals and the targets are flat, and the index is that of the targets by their heads
 pub record IsSearchable (task : Task) : Type 0 where
@@ -25,7 +25,7 @@ FindsNextTarget task = FindsTarget task.slots task.targets.now
 
 -- where the search stands: these choices were made, and the next literal goes on from this target
 abbrev pub SearchStandsAt : Task → List Choice → Pairs → ℕ → Type 0
-SearchStandsAt task = IsUnderway task.slots task.targets.now task.literals.now
+SearchStandsAt task = IsUnderwayFrom task.slots task.targets.now task.literals.now
 
 abbrev pub CannotGoOn : Task → List Choice → Pairs → Type 0
 CannotGoOn task = IsDead task.slots task.targets.now task.literals.now

@@ -1,5 +1,5 @@
 use Rattle.std.proofs.Common.{length, sym, ◌∙◌, ap, subst}
-use Rattle.si_form.specs.Folding.{HasEarlierParts, node_size}
+use Rattle.si_form.specs.Folding.{HasPartsBefore, node_size}
 use Rattle.si_form.proofs.FoldingLaws.{sizes_begin, sizes_more, is_before}
 use Rattle.si_form.proofs.folding.sizes.Goals as goal
 
@@ -8,7 +8,7 @@ loop-n-init c = sizes_begin c.args.nodes.now.keys c.args.leaders.now c.new-sizes
 
 pub node_size-size-requires-clause-before : goal.node_size-size-requires-clause-before
 node_size-size-requires-clause-before c =
-    subst (λ n. HasEarlierParts n c.in-Some.field-0.now) (sym (ap (λ l. length l) c.deref.ensures.value ∙ c.loop-n.invariant.long))
+    subst (λ n. HasPartsBefore n c.in-Some.field-0.now) (sym (ap (λ l. length l) c.deref.ensures.value ∙ c.loop-n.invariant.long))
     (is_before c.args.nodes.now.keys c.loop-n.n c.in-Some.field-0.now c.requires.terms c.in-Some.ensures.key)
 
 pub loop-n-preserved : goal.loop-n-preserved

@@ -1,7 +1,7 @@
 use Rattle.std.proofs.Common.{◌∷◌, ◌++◌, [], sym, ap, subst, ◌∙◌}
 use Rattle.si_defs.specs.Substitutions.{IsAmong}
 use Rattle.si_flat.specs.Rows.{left_sides}
-use Rattle.si_insert.specs.Opened.{numbers, OpensAt}
+use Rattle.si_insert.specs.Opened.{numbers, BeginsAtPlace}
 use Rattle.si_insert.proofs.PartLaws.{LeftToGive, give_start, give_end, give_next, given_more, opened_next, next_within}
 use Rattle.si_insert.proofs.parting.parts_at.Goals as goal
 
@@ -33,7 +33,7 @@ loop-pair-preserved c = (
   tt,
   λ there bs may.
       let n = give_next c.args.cells.now c.args.openings.now c.args.bindings.now there bs c.in-Some.pair c.next.new.self c.loop-pair.new c.requires.distinct may (subst (λ ps. LeftToGive c.args.cells.now c.args.openings.now there bs ps c.loop-pair.new) c.in-Some.ensures.steps (c.loop-pair.invariant.2 there bs may)) in
-      let place : OpensAt c.args.openings.now c.in-Some.pair.0 c.at-at.result = subst (λ k. OpensAt c.args.openings.now k c.at-at.result) c.left.ensures c.at-at.ensures in
+      let place : BeginsAtPlace c.args.openings.now c.in-Some.pair.0 c.at-at.result = subst (λ k. BeginsAtPlace c.args.openings.now k c.at-at.result) c.left.ensures c.at-at.ensures in
       given_more c.args.cells.now c.args.openings.now c.args.bindings.now there bs c.in-Some.pair c.next.new.self c.loop-pair.new c.push.new.self c.at-at.result c.sub.result.now may n place c.sub.ensures.place c.sub.ensures.whole (c.in_ok-push.ensures.ok ∙ ap (λ k. c.loop-pair.new ++ (k, c.sub.result.now) ∷ []) c.left-in-loop-pair.ensures),
 )
 

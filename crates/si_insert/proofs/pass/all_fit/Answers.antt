@@ -4,7 +4,7 @@ use Rattle.si_flat.specs.Rows.{CellPair}
 use Rattle.si_flat.specs.declared.Cell.{Cell}
 use Rattle.si_legal.specs.Bindings.{Binding}
 use Rattle.si_insert.specs.declared.open.Opened.{Opened}
-use Rattle.si_insert.specs.Opened.{numbers, OpensAt}
+use Rattle.si_insert.specs.Opened.{numbers, BeginsAtPlace}
 use Rattle.si_insert.specs.Fitting.{MayFit, FitsThere, FitsNowhere}
 use Rattle.si_insert.specs.Passing.{MayPass}
 use Rattle.si_insert.proofs.PassLaws.{LeftToPass, FirstOf, first_of, is_opened, place_within, may_fit, passed_one, never_one, end_pass}
@@ -34,13 +34,13 @@ fits-requires-clause-may_fit c =
 pub returns-then-not-branch-clause-differs : goal.returns-then-not-branch-clause-differs
 returns-then-not-branch-clause-differs c = λ told there bs fs may makes.
     let f = first_here c.args.cells.now c.args.openings.now c.loop-pair.openings c.args.node.now c.loop-pair.pair-iterator c.next.new.self there bs c.in-Some.pair c.in-Some.ensures.steps may (c.loop-pair.invariant.3 there bs may) in
-    let place : OpensAt c.loop-pair.openings c.in-Some.pair.0 c.at-at.result = subst (λ n. OpensAt c.loop-pair.openings n c.at-at.result) c.left.ensures c.at-at.ensures in
+    let place : BeginsAtPlace c.loop-pair.openings c.in-Some.pair.0 c.at-at.result = subst (λ n. BeginsAtPlace c.loop-pair.openings n c.at-at.result) c.left.ensures c.at-at.ensures in
     let nowhere : FitsNowhere c.in-Some.pair.1 c.args.cells.now c.at-at.result = subst (λ r. FitsNowhere r c.args.cells.now c.at-at.result) c.right.ensures.cells (c.in_ok-fits.ensures.differs c.if-not-branch.true) in
     never_one c.args.cells.now c.args.openings.now c.loop-pair.openings c.args.node.now there bs c.in-Some.pair c.next.new.self c.at-at.result may f place nowhere fs makes
 
 pub loop-pair-preserved : goal.loop-pair-preserved
 loop-pair-preserved c =
-    let place : OpensAt c.loop-pair.openings c.in-Some.pair.0 c.at-at.result = subst (λ n. OpensAt c.loop-pair.openings n c.at-at.result) c.left.ensures c.at-at.ensures in
+    let place : BeginsAtPlace c.loop-pair.openings c.in-Some.pair.0 c.at-at.result = subst (λ n. BeginsAtPlace c.loop-pair.openings n c.at-at.result) c.left.ensures c.at-at.ensures in
     let fits : FitsThere c.loop-pair.openings c.in-Some.pair.1 c.args.cells.now c.at-at.result c.fits.new.openings = subst (λ r. FitsThere c.loop-pair.openings r c.args.cells.now c.at-at.result c.fits.new.openings) c.right.ensures.cells (c.in_ok-fits.ensures.fits c.if-not-branch.false) in
     let before = c.loop-pair.invariant.2 in
     let after = c.in_ok-fits.ensures.grows in (

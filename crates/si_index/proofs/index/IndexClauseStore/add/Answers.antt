@@ -10,7 +10,7 @@ use Rattle.si_term.specs.Meaning.{clause_of, name_of}
 use Rattle.si_term.specs.declared.clause.Clause.{Clause}
 use Rattle.si_sign.specs.Stores.{Rejects}
 use Rattle.si_index.specs.Kept.{Kept, KeysStay, NumbersStay, clauses_of}
-use Rattle.si_index.specs.Register.{Uncounts}
+use Rattle.si_index.specs.Register.{UncountsClause}
 use Rattle.si_index.specs.Names.{key_of_name}
 use Rattle.si_index.specs.Stored.{IsKeptIndex, AreHeld, HaveRows, keyed_clauses}
 use Rattle.si_index.proofs.KeyStays.{kept_as, keys_same, no_trees}
@@ -100,7 +100,7 @@ invariant_of-self-in-Err-keep c =
     let new = c.uncount.new.self in
     let enters = c.in-Ok.ensures.enters in
     let undone = uncounted_as (clause_of c.args.clause) between c.keep.new.register new c.keep.ensures.signature c.keep.ensures.entries
-    (subst (λ (d : Clause). Uncounts (clause_of d) c.keep.new.register new) c.in-Err-keep.ensures.handed_back c.uncount.ensures.uncounts) in (
+    (subst (λ (d : Clause). UncountsClause (clause_of d) c.keep.new.register new) c.in-Err-keep.ensures.handed_back c.uncount.ensures.uncounts) in (
       subst (λ l. IsKeptIndex (limited_to c.self.inside.limit) l new) (sym c.in-Err-keep.ensures.err)
           (kept_stays (limited_to c.self.inside.limit) register new items c.self.invariant.0
           (entered_back items register between new (clause_of c.args.clause) c.self.invariant.0.registered.signature enters

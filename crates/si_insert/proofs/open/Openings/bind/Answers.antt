@@ -2,7 +2,7 @@ use Rattle.std.proofs.Common.{◌≡◌, sym, ◌∙◌, ap, subst, arith}
 use Rattle.std.proofs.lemmas.Option.{slice_get_within}
 use Rattle.std.specs.Prelude.{slice_set, true}
 use Rattle.si_defs.specs.Substitutions.{AreDistinct}
-use Rattle.si_insert.specs.Opened.{numbers, with_bound, AreOpenedAt}
+use Rattle.si_insert.specs.Opened.{numbers, with_bound, AreListedFrom}
 use Rattle.si_insert.proofs.OpenedLaws.{found_in, number_read, number_within, read, at_bound, numbers-bound, bound_there}
 use Rattle.si_insert.proofs.open.Openings.bind.Goals as goal
 
@@ -23,7 +23,7 @@ invariant_of-self c =
     let one : c.index_mut.result.now ≡ f.opened = read c.self.inside.opened.items f.number c.index_mut.result.now f.opened (rw there at c.index_mut.ensures.value) f.item in
     let all : slice_set c.self.inside.opened.items c.index-number.result.now (record c.index_mut.result.now { bound = true }) ≡ with_bound c.args.indicator c.self.inside.opened.items =
     (λ i. slice_set c.self.inside.opened.items (there i) (record (one i) { bound = true })) ∙ bound_there c.args.indicator f.number c.self.inside.opened.items f.opened c.self.invariant.1 f.item f.indicator in (
-      subst (AreOpenedAt c.self.inside.places.items 0) (sym all) (at_bound c.self.inside.places.items 0 c.args.indicator c.self.inside.opened.items c.self.invariant.0),
+      subst (AreListedFrom c.self.inside.places.items 0) (sym all) (at_bound c.self.inside.places.items 0 c.args.indicator c.self.inside.opened.items c.self.invariant.0),
       subst AreDistinct (sym (numbers-bound c.args.indicator c.self.inside.opened.items) ∙ ap numbers (sym all)) c.self.invariant.1,
     )
 

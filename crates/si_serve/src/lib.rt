@@ -3,9 +3,8 @@
 #![tactic(auto)]
 
 mod lines;
-mod serve;
+pub mod serve;
 mod status;
 mod words;
 
-pub use serve::{decline, serve};
 pub use status::Status;

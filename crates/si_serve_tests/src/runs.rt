@@ -1,6 +1,7 @@
 // Whole runs over sources, sinks and libraries in memory.
 use si_io::{MemoryLibrary, MemorySink, MemorySource};
-use si_serve::{Status, serve};
+use si_serve::Status;
+use si_serve::serve::serve;
 use si_session::Limits;
 use std::alloc::{AllocError, Global};
 use std::process::Abort;

@@ -6,7 +6,8 @@ ghost use Rattle.si_serve.specs.Serve.{HasRoomForOutputs};
 
 use crate::runs::{ROOM, WHOLE, call};
 use si_io::{MemoryLibrary, MemorySink};
-use si_serve::{Status, decline};
+use si_serve::Status;
+use si_serve::serve::decline;
 use si_session::Limits;
 use si_texts::library_of;
 use std::alloc::{AllocError, Global};

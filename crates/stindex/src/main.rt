@@ -3,7 +3,8 @@
 #![tactic(auto)]
 
 use si_io::{RealLibrary, RealSink, RealSource};
-use si_serve::{Status, decline, serve};
+use si_serve::Status;
+use si_serve::serve::{decline, serve};
 use si_session::Limits;
 use std::env::args;
 use std::io::{self, BufWriter};

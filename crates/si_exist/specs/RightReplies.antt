@@ -12,7 +12,7 @@ use Rattle.si_steps.specs.Runs.{Request}
 use Rattle.si_laws.specs.OneReply.{ReportsNoFailure, RightRun}
 use Rattle.si_exist.specs.OneList.{IsNotAbsent}
 
--- Of these replies, each with what it owes and the state after it, there is one that tells no
+-- Of these replies, each with what it owes and the state after it, there is one that reports no
 -- failure of the library.
 abbrev pub HasOneWithoutFailure : (Reply → Owed → State → Type 0) → Type 0
 HasOneWithoutFailure P =

@@ -17,7 +17,7 @@ use Rattle.si_keyed.proofs.PlacedLaws.{same_position}
 use Rattle.si_entries.specs.Walks.{GivesAfter, left_of, last_place}
 use Rattle.si_entries.specs.declared.Entries.{Entries}
 use Rattle.si_index.specs.Leaves.{StayMade}
-use Rattle.si_index.specs.Searching.{numbers_of, pattern_in, IsReadyToSearch, IsKnownEntry, IsKnownClause, IsOfLeaf, HasCanonicalSolution, IsMatch, AreMatches, hit_of}
+use Rattle.si_index.specs.Searching.{numbers_of, pattern_in, IsReadyToSearch, IsKnownEntry, IsKnownClause, IsOfLeaf, HaveCanonicalSolutions, IsMatch, AreMatches, hit_of}
 use Rattle.si_index.specs.Slots.{Slots}
 use Rattle.si_index.specs.Gathering.{IsBefore, Rise, IsAhead, IsHitAt, IsStandingAt, IsWalk, AddsHit}
 use Rattle.si_index.specs.declared.search.Search.{Search}
@@ -182,7 +182,7 @@ adds_match s m hit old new pushed is stay each match = record {
 }
 
 -- each hit has a solution
-pub hits_solved : (s : Search) (leaves : List Leaf) (ms : List Match) → AllByRecursion (IsMatch s leaves) ms → AllByRecursion (λ (hit : ℕ × Placed). HasCanonicalSolution s.relation (pattern_in s) hit.1.entry) (map hit_of ms)
+pub hits_solved : (s : Search) (leaves : List Leaf) (ms : List Match) → AllByRecursion (IsMatch s leaves) ms → HaveCanonicalSolutions s.relation (pattern_in s) (map hit_of ms)
 hits_solved s leaves [] all = tt
 hits_solved s leaves (m ∷ ms) all =
     let list = all.0.list.2 in

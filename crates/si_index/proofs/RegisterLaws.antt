@@ -43,7 +43,7 @@ module _ (rules : Rules) (items : List (ℕ × term.Clause)) (register : Registe
   pub name_free : key_of_name items register.names c.name ≡ None → IsTaken (clauses_of items) c.name → ⊥
   name_free e = unknown_free items (key_of_name items register.names) is.names c.name e
 
-  pub rejects : IsSoundClause c → (f : AddFault) → Bars rules.entries items register c f → Rejects rules (clauses_of items) c f
+  pub rejects : IsSoundClause c → (f : AddFault) → Bars rules items register c f → Rejects rules (clauses_of items) c f
   rejects sound add_fault.Taken why = let found = some_is (key_of_name items register.names c.name) why in leads_taken items (key_of_name items register.names) is.names c.name found.0 found.1
   rejects sound (add_fault.Clash clash) (free, names) = by (clashes_in_state (clauses_of items) register.signature good is.signed (clause_symbols c) clash names) where
     by : NamesFirstClash (state_symbols (clauses_of items)) (clause_symbols c) clash → Rejects rules (clauses_of items) c (add_fault.Clash clash)
@@ -59,7 +59,7 @@ module _ (rules : Rules) (items : List (ℕ × term.Clause)) (register : Registe
   )
   rejects sound add_fault.Memory why = tt
 
-  pub accepts : IsSoundClause c → Admits rules.entries items register c → Accepts rules (clauses_of items) c (clauses_of items ++ c ∷ [])
+  pub accepts : IsSoundClause c → Admits rules items register c → Accepts rules (clauses_of items) c (clauses_of items ++ c ∷ [])
   accepts sound admits = record {
     free = name_free admits.free;
     agree = agrees_in_state (clauses_of items) register.signature good is.signed (clause_symbols c) admits.agree;
@@ -91,7 +91,7 @@ kept_stays rules old new items kept same = record {
 
 -- a clause that is put last
 module _ (rules : Rules) (old between : Register) (items more : List (ℕ × term.Clause)) (c : term.Clause) (names : ClauseNames) (good : IsSignature old.signature)
-    (kept : IsKeptIndex rules items old) (sound : IsSoundClause (clause_of c)) (admits : Admits rules.entries items old (clause_of c)) (enters : CountsClause (clause_of c) old between)
+    (kept : IsKeptIndex rules items old) (sound : IsSoundClause (clause_of c)) (admits : Admits rules items old (clause_of c)) (enters : CountsClause (clause_of c) old between)
     (put : HasPut c items more between.names names) where
   clauses_more : clauses_of more ≡ clauses_of items ++ clause_of c ∷ []
   clauses_more = ap clauses_of put.1.pushed ∙ map-append (λ p. clause_of p.1) items ((put.0, c) ∷ [])

@@ -41,6 +41,12 @@ pub record Finding : Type 0 where
   pub hits : List (ℕ × Placed)
   pub passed : ℕ
 
+-- it was found in this index, for this relation and this pattern
+pub record IsFindingOf (k : Kept) (asked : Relation) (p : Pattern) (f : Finding) : Type 0 where
+  pub index : f.index ≡ k
+  pub relation : f.relation ≡ asked
+  pub pattern : f.pattern ≡ p
+
 abbrev term_code : Coded Term
 term_code = coded_term symbol_code (coded_list coded_ℕ)
 

@@ -5,6 +5,7 @@ use Rattle.si_defs.specs.Clauses.{Name, Clause}
 use Rattle.si_defs.specs.Symbols.{Symbol, times}
 use Rattle.si_defs.specs.Entries.{clause_symbols, state_symbols, entries, state_entries}
 use Rattle.si_defs.specs.Substitutions.{IsAmong}
+use Rattle.si_state.specs.States.{Rules}
 use Rattle.si_state.specs.Acceptance.{AllAgree}
 use Rattle.si_state.specs.Signatures.{IsSignature, IsSignatureOf, KeepsNumbers, known_symbols, uses_of, total}
 use Rattle.si_term.specs.Meaning.{name_of}
@@ -38,12 +39,12 @@ abbrev pub HasPut : term.Clause → (items new : List (ℕ × term.Clause)) → 
     → Type 0
 HasPut clause items new old names = (key : ℕ) × IsPut key clause items new old names
 
--- the clause may be entered, with this limit on entries
-pub record Admits (limit : ℕ) (items : List (ℕ × term.Clause)) (register : Register)
+-- the clause may be entered by these rules
+pub record Admits (rules : Rules) (items : List (ℕ × term.Clause)) (register : Register)
     (clause : Clause) : Type 0 where
   pub free : key_of_name items register.names clause.name ≡ None
   pub agree : AllAgree (known_symbols register.signature) (clause_symbols clause)
-  pub room : register.entries + length (entries clause) ≤ limit
+  pub room : register.entries + length (entries clause) ≤ rules.entries
 
 -- the symbols and the entries of the clause are counted
 pub record CountsClause (clause : Clause) (old new : Register) : Type 0 where
@@ -79,15 +80,15 @@ pub record IsSameRegister (items : List (ℕ × term.Clause)) (old new : Registe
   pub numbers : KeepsNumbers old.signature new.signature
 
 -- why a clause isn't entered
-abbrev pub Bars : ℕ → List (ℕ × term.Clause) → Register → Clause → AddFault → Type 0
-Bars limit items register clause add_fault.Taken =
+abbrev pub Bars : Rules → List (ℕ × term.Clause) → Register → Clause → AddFault → Type 0
+Bars rules items register clause add_fault.Taken =
     IsSome (key_of_name items register.names clause.name)
-Bars limit items register clause (add_fault.Clash c) =
+Bars rules items register clause (add_fault.Clash c) =
     (key_of_name items register.names clause.name ≡ None)
     × NamesFirstClash (known_symbols register.signature) (clause_symbols clause) c
-Bars limit items register clause (add_fault.Full needed most) =
+Bars rules items register clause (add_fault.Full needed most) =
     (key_of_name items register.names clause.name ≡ None)
     × AllAgree (known_symbols register.signature) (clause_symbols clause)
-    × (limit < needed) × (needed ≡ register.entries + length (entries clause))
-    × (most ≡ limit)
-Bars limit items register clause add_fault.Memory = Unit {0}
+    × (rules.entries < needed) × (needed ≡ register.entries + length (entries clause))
+    × (most ≡ rules.entries)
+Bars rules items register clause add_fault.Memory = Unit {0}

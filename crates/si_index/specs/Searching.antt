@@ -81,6 +81,11 @@ pub record HasCanonicalSolution (relation : Relation) (p : Pattern) (e : Entry) 
   pub solution : Solution
   pub solves : Solves relation p e solution
 
+-- so it is with the entry of each hit
+abbrev pub HaveCanonicalSolutions : Relation → Pattern → List (ℕ × Placed) → Type 0
+HaveCanonicalSolutions relation p hits =
+    AllByRecursion (λ hit. HasCanonicalSolution relation p hit.1.entry) hits
+
 -- the entry stands in the relation, and the bindings stand for its canonical list
 pub record SolvesEntry (relation : Relation) (numbers : Numbering) (p : Pattern) (e : Entry)
     (bindings : List Binding) : Type 0 where

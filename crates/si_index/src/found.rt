@@ -1,6 +1,5 @@
 // What a search for a pattern found.
 ghost use Rattle.std.specs.Prelude.{◌≡◌, ◌≢◌, ◌<◌, IfOk, None, Some, length, map, slice_get};
-ghost use Rattle.std.specs.List.{AllByRecursion};
 ghost use Rattle.si_defs.specs.Clauses.{IsSoundPattern};
 ghost use Rattle.si_term.specs.Terms.{symbol_of};
 ghost use Rattle.si_term.specs.Meaning.{clause_of, pattern_of, place_of};
@@ -197,7 +196,8 @@ pub(crate) fn asks_literals(pattern: &Pattern) -> bool
 }
 
 impl Index {
-    ghost use Rattle.si_index.specs.Searching.{HasCanonicalSolution};
+    ghost use Rattle.si_index.specs.Finding.{IsFindingOf};
+    ghost use Rattle.si_index.specs.Searching.{HaveCanonicalSolutions};
     ghost use Rattle.si_index.specs.Engines.{AnswersStanding, FindsHits};
 
     /// Finds the entries that the engine answers to the pattern, in the order of acceptance and of
@@ -215,13 +215,11 @@ impl Index {
         requires sound { IsSoundPattern (pattern_of pattern.now) }
         requires standing { AnswersStanding (E.answers engine.now) self.now relation
             (pattern_of pattern.now) }
-        ensures index { IfOk result (λ f. f.index ≡ self.now) }
-        ensures relation { IfOk result (λ f. f.relation ≡ relation) }
-        ensures pattern { IfOk result (λ f. f.pattern ≡ pattern_of pattern.now) }
+        ensures asked { IfOk result (IsFindingOf self.now relation (pattern_of pattern.now)) }
         ensures hits { IfOk result (λ f. FindsHits (E.answers engine.now) (E.count engine.now)
             self.now relation (pattern_of pattern.now) f.hits f.passed) }
-        ensures solved { IfOk result (λ f. AllByRecursion
-            (λ hit. HasCanonicalSolution relation (pattern_of pattern.now) hit.1.entry) f.hits) }
+        ensures solved { IfOk result (λ f. HaveCanonicalSolutions relation
+            (pattern_of pattern.now) f.hits) }
     {
         let alloc = self.allocator();
         let stats = self.stats();

@@ -4,6 +4,7 @@ ghost use Rattle.si_defs.specs.Symbols.{Symbol, times};
 ghost use Rattle.si_defs.specs.Clauses as defs;
 ghost use Rattle.si_defs.specs.Entries.{clause_symbols, entries};
 ghost use Rattle.si_defs.specs.declared.TheConstants.{MOST_OCCURRENCES};
+ghost use Rattle.si_state.specs.States.{limited_to};
 ghost use Rattle.si_state.specs.Acceptance.{AllAgree};
 ghost use Rattle.si_state.specs.Signatures as signatures;
 ghost use Rattle.si_state.specs.Signatures.{IsSignature, uses_of, known_symbols};
@@ -58,11 +59,12 @@ impl Register {
             + length (clause_symbols (clause_of clause.now)) ≤ MOST_USES }
         requires counted { self.old.entries ≤ MOST_OCCURRENCES }
         requires few { length (entries (clause_of clause.now)) ≤ MOST_OCCURRENCES }
-        ensures admits { OnOk result (Admits limit clauses.now.items self.old
+        ensures admits { OnOk result (Admits (limited_to limit) clauses.now.items self.old
             (clause_of clause.now)) }
         ensures enters { OnOk result (CountsClause (clause_of clause.now) self.old self.new) }
         ensures number { IfOk result (λ n. n ≡ length (entries (clause_of clause.now))) }
-        ensures why { IfErr result (Bars limit clauses.now.items self.old (clause_of clause.now)) }
+        ensures why { IfErr result (Bars (limited_to limit) clauses.now.items self.old
+            (clause_of clause.now)) }
         ensures err { OnErr result (IsSameRegister clauses.now.items self.old self.new) }
     {
         if self.names.get(clauses, &clause.name).is_some() {

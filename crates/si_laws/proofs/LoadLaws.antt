@@ -16,16 +16,16 @@ use Rattle.si_steps.specs.Loads.{owed_for}
 use Rattle.si_steps.proofs.FetchLaws.{barred_no_ask}
 use Rattle.si_lex.proofs.BlankLaws.{place_unique}
 use Rattle.si_parse.proofs.GrammarStops.{no_item_in_blanks}
-use Rattle.si_laws.specs.OneReply.{IsConsistent, ReportsNoFailure}
+use Rattle.si_laws.specs.OneReply.{ReportsNoFailure}
 use Rattle.si_laws.proofs.ItemLaws.{one_item, item_is}
 use Rattle.si_laws.proofs.RefusalLaws.{accepts_or_refuses, one_refusal}
-use Rattle.si_laws.proofs.StateLaws.{consistent_more}
+use Rattle.si_laws.proofs.StateLaws.{AreConsistent, consistent_more}
 
 -- ---- clauses that were accepted in turn
-pub accepted_stay : (rules : Rules) (state gained : List Clause) → IsConsistent state → AreAccepted rules state gained → IsConsistent (state ++ gained)
-accepted_stay rules state [] is h = subst IsConsistent (sym (append-nil state)) is
+pub accepted_stay : (rules : Rules) (state gained : List Clause) → AreConsistent state → AreAccepted rules state gained → AreConsistent (state ++ gained)
+accepted_stay rules state [] is h = subst AreConsistent (sym (append-nil state)) is
 accepted_stay rules state (c ∷ cs) is h =
-    subst IsConsistent (append_assoc state (c ∷ []) cs) (accepted_stay rules (state ++ c ∷ []) cs (consistent_more rules state c (state ++ c ∷ []) is h.0) h.1)
+    subst AreConsistent (append_assoc state (c ∷ []) cs) (accepted_stay rules (state ++ c ∷ []) cs (consistent_more rules state c (state ++ c ∷ []) is h.0) h.1)
 
 -- ---- why a file isn't opened
 module _ (bounds : Bounds) (opened : List Bytes) (made : ℕ) (file : Bytes) where
@@ -189,27 +189,27 @@ module _ (point : ReadingPoint) where
 module _ (files : Files) (bounds : Bounds) (rules : Rules) where
   mutual
     -- what a reading without a fault accepted keeps the state consistent
-    pub harvest_stays : (opened : List Bytes) (around : List (List Name)) (made : ℕ) (state : List Clause) (file : Bytes) (events : List Event) → IsConsistent state
-        → Harvests files bounds rules opened around made state file events None → IsConsistent (state ++ tried events)
+    pub harvest_stays : (opened : List Bytes) (around : List (List Name)) (made : ℕ) (state : List Clause) (file : Bytes) (events : List Event) → AreConsistent state
+        → Harvests files bounds rules opened around made state file events None → AreConsistent (state ++ tried events)
     harvest_stays opened around made state file events is (fetched _ _ _ _ _ bytes may found small own fault rest) =
         continues_stays (record { file = file; bytes = bytes; opened = file ∷ opened; around = around; rest = bytes }) (made + 1) state own is rest
 
-    continues_stays : (point : ReadingPoint) (made : ℕ) (state : List Clause) (events : List Event) → IsConsistent state
-        → Continues files bounds rules point made state events None → IsConsistent (state ++ tried events)
-    continues_stays point made state events is (ended _ _ _ blanks) = subst IsConsistent (sym (append-nil state)) is
+    continues_stays : (point : ReadingPoint) (made : ℕ) (state : List Clause) (events : List Event) → AreConsistent state
+        → Continues files bounds rules point made state events None → AreConsistent (state ++ tried events)
+    continues_stays point made state events is (ended _ _ _ blanks) = subst AreConsistent (sym (append-nil state)) is
     continues_stays point made state events is (passed_over _ _ _ c after begins passed own fault rest) =
         continues_stays (record point { rest = after }) made state own is rest
     continues_stays point made state events is (accepted _ _ _ c after begins selected accepts own fault rest) =
-        subst IsConsistent (append_assoc state (c ∷ []) (tried own))
+        subst AreConsistent (append_assoc state (c ∷ []) (tried own))
         (continues_stays (record point { rest = after }) made (state ++ c ∷ []) own (consistent_more rules state c (state ++ c ∷ []) is accepts) rest)
     continues_stays point made state events is (expanded _ _ _ file selection after begins inside own whole fault harvest rest parts) =
         let behind = harvest_stays point.opened (narrowed selection point.around) made state file inside is harvest in
         let all = continues_stays (record point { rest = after }) (made + fetches inside) (state ++ tried inside) own behind rest in
-        subst IsConsistent (append_assoc state (tried inside) (tried own) ∙ ap (λ cs. state ++ cs) (sym (tried-append inside own) ∙ ap tried (sym parts))) all
+        subst AreConsistent (append_assoc state (tried inside) (tried own) ∙ ap (λ cs. state ++ cs) (sym (tried-append inside own) ∙ ap tried (sym parts))) all
 
   mutual
     -- two readings of a file give the same events, and the same fault or none
-    pub one_harvest : (opened : List Bytes) (around : List (List Name)) (made : ℕ) (state : List Clause) (file : Bytes) (events others : List Event) (f g : Option Fault) → IsConsistent state
+    pub one_harvest : (opened : List Bytes) (around : List (List Name)) (made : ℕ) (state : List Clause) (file : Bytes) (events others : List Event) (f g : Option Fault) → AreConsistent state
         → Harvests files bounds rules opened around made state file events f → Harvests files bounds rules opened around made state file others g → Ends f → Ends g → (events ≡ others) × (f ≡ g)
     one_harvest opened around made state file events others f g is (barred _ _ _ _ _ why h) (barred _ _ _ _ _ because k) a b =
         (refl, ap Some (barred_one bounds opened made file why because h k))
@@ -232,7 +232,7 @@ module _ (files : Files) (bounds : Bounds) (rules : Rules) where
         (subst (λ x. Continues files bounds rules (record { file = file; bytes = x; opened = file ∷ opened; around = around; rest = x }) (made + 1) state more g) (sym same) rest_too) a b in
         (ap (λ es. ask file ∷ es) rests.0, rests.1)
 
-    one_continues : (point : ReadingPoint) (made : ℕ) (state : List Clause) (events others : List Event) (f g : Option Fault) → IsConsistent state
+    one_continues : (point : ReadingPoint) (made : ℕ) (state : List Clause) (events others : List Event) (f g : Option Fault) → AreConsistent state
         → Continues files bounds rules point made state events f → Continues files bounds rules point made state others g → Ends f → Ends g → (events ≡ others) × (f ≡ g)
     one_continues point made state events others f g is (ended _ _ _ blanks) (ended _ _ _ blanks_too) a b = (refl, refl)
     one_continues point made state events others f g is (ended _ _ _ blanks) (stuck _ _ _ because k) a b = absurd (stuck_no_blanks point because k blanks)

@@ -20,7 +20,7 @@ use Rattle.si_laws.proofs.SampleLaws.{one_sample, sample_stays}
 use Rattle.si_laws.proofs.StateLaws.{same_removal, removes_taken, same_count, consistent_more, consistent_less}
 
 -- ---- a command
-pub one_outcome : (setting : Setting) (command : Command) (state : State) → IsConsistent state.clauses → HasOneOutcome setting command state
+pub one_outcome : (setting : Setting) (command : Command) (state : State) → IsConsistent state → HasOneOutcome setting command state
 one_outcome setting (add c) state is reply other new behind (inl (why, refuses, said, stays)) (inl (because, refuses_too, said_too, stays_too)) = (
   said ∙ ap (λ r. refusal_line setting.rules.entries c.name r ∷ []) (one_refusal setting.rules state.clauses c is why because refuses refuses_too) ∙ sym said_too,
   stays ∙ sym stays_too,
@@ -53,7 +53,7 @@ one_outcome setting (explain relation p) state is reply other new behind (passed
     let same = one_count relation p (state_entries state.clauses) answers_too answers counts_too counts in
     ((answers, passed, nodes, passed_too, nodes_too, said, said_too ∙ ap (λ n. explain_line passed_too nodes_too n ∷ []) same), stays ∙ sym stays_too)
 
-pub one_load : (setting : Setting) (files : Files) (file : Bytes) (state : State) → IsConsistent state.clauses → LoadsToOneOutcome setting files file state
+pub one_load : (setting : Setting) (files : Files) (file : Bytes) (state : State) → IsConsistent state → LoadsToOneOutcome setting files file state
 one_load setting files file state is reply other owed due new behind (events, fault, loads, said, owes, left) (others, cause, loads_too, said_too, owes_too, left_too) a b =
     let same =
     one_harvest files (load_bounds setting.limits) setting.rules [] [] 0 state.clauses file events others fault cause is loads loads_too (sym (ap (λ (o : Owed). o.failures) owes) ∙ a) (sym (ap (λ (o : Owed). o.failures) owes_too) ∙ b) in (
@@ -63,32 +63,32 @@ one_load setting files file state is reply other owed due new behind (events, fa
     )
 
 -- ---- consistent lists
-performs_stays : (setting : Setting) (command : Command) (state : State) (reply : Reply) (new : State) → IsConsistent state.clauses → Performs setting command state reply new → IsConsistent new.clauses
-performs_stays setting (add c) state reply new is (inl h) = subst (λ (s : State). IsConsistent s.clauses) (sym h.3) is
+performs_stays : (setting : Setting) (command : Command) (state : State) (reply : Reply) (new : State) → IsConsistent state → Performs setting command state reply new → IsConsistent new
+performs_stays setting (add c) state reply new is (inl h) = subst IsConsistent (sym h.3) is
 performs_stays setting (add c) state reply new is (inr h) = consistent_more setting.rules state.clauses c new.clauses is h.0
 performs_stays setting (load file) state reply new is h = absurd h
-performs_stays setting (remove name) state reply new is (inl h) = subst (λ (s : State). IsConsistent s.clauses) (sym h.2) is
+performs_stays setting (remove name) state reply new is (inl h) = subst IsConsistent (sym h.2) is
 performs_stays setting (remove name) state reply new is (inr h) = consistent_less state.clauses name h.0 new.clauses is h.1
-performs_stays setting (query relation p) state reply new is h = subst (λ (s : State). IsConsistent s.clauses) (sym h.3) is
-performs_stays setting (subsumers formula) state reply new is h = subst (λ (s : State). IsConsistent s.clauses) (sym h.3) is
-performs_stays setting (subsumed formula) state reply new is h = subst (λ (s : State). IsConsistent s.clauses) (sym h.3) is
+performs_stays setting (query relation p) state reply new is h = subst IsConsistent (sym h.3) is
+performs_stays setting (subsumers formula) state reply new is h = subst IsConsistent (sym h.3) is
+performs_stays setting (subsumed formula) state reply new is h = subst IsConsistent (sym h.3) is
 performs_stays setting (sample start count) state reply new is h = sample_stays setting start count state reply new is h
-performs_stays setting stats state reply new is h = subst (λ (s : State). IsConsistent s.clauses) (sym h.3) is
-performs_stays setting tree state reply new is h = subst (λ (s : State). IsConsistent s.clauses) (sym h.3) is
-performs_stays setting (explain relation p) state reply new is h = subst (λ (s : State). IsConsistent s.clauses) (sym h.5) is
+performs_stays setting stats state reply new is h = subst IsConsistent (sym h.3) is
+performs_stays setting tree state reply new is h = subst IsConsistent (sym h.3) is
+performs_stays setting (explain relation p) state reply new is h = subst IsConsistent (sym h.5) is
 
-pub load_stays : (setting : Setting) (told : Option Files) (file : Bytes) (state : State) (reply : Reply) (owed : Owed) (new : State) → IsConsistent state.clauses
-    → PerformsLoad setting told file state reply owed new → IsConsistent new.clauses
+pub load_stays : (setting : Setting) (told : Option Files) (file : Bytes) (state : State) (reply : Reply) (owed : Owed) (new : State) → IsConsistent state
+    → PerformsLoad setting told file state reply owed new → IsConsistent new
 load_stays setting (Some files) file state reply owed new is (events, None, loads, said, owes, left) =
-    subst (λ (s : State). IsConsistent s.clauses) (sym left) (harvest_stays files (load_bounds setting.limits) setting.rules [] [] 0 state.clauses file events is loads)
-load_stays setting (Some files) file state reply owed new is (events, Some fault, loads, said, owes, left) = subst (λ (s : State). IsConsistent s.clauses) (sym left) is
-load_stays setting None file state reply owed new is (may, some, inl (gained, accepted, said, owes, left)) = subst (λ (s : State). IsConsistent s.clauses) (sym left) (accepted_stay setting.rules state.clauses gained is accepted)
-load_stays setting None file state reply owed new is (may, some, inr (fault, said, owes, left)) = subst (λ (s : State). IsConsistent s.clauses) (sym left) is
+    subst IsConsistent (sym left) (harvest_stays files (load_bounds setting.limits) setting.rules [] [] 0 state.clauses file events is loads)
+load_stays setting (Some files) file state reply owed new is (events, Some fault, loads, said, owes, left) = subst IsConsistent (sym left) is
+load_stays setting None file state reply owed new is (may, some, inl (gained, accepted, said, owes, left)) = subst IsConsistent (sym left) (accepted_stay setting.rules state.clauses gained is accepted)
+load_stays setting None file state reply owed new is (may, some, inr (fault, said, owes, left)) = subst IsConsistent (sym left) is
 
 pub step_stays : (setting : Setting) (told : Option Files) (state : State) (line : Bytes) → StaysConsistent setting told state line
-step_stays setting told state line reply owed new is (long h said owes stays) = subst (λ (s : State). IsConsistent s.clauses) (sym stays) is
-step_stays setting told state line reply owed new is (silent h said owes stays) = subst (λ (s : State). IsConsistent s.clauses) (sym stays) is
-step_stays setting told state line reply owed new is (foreign g h n said owes stays) = subst (λ (s : State). IsConsistent s.clauses) (sym stays) is
-step_stays setting told state line reply owed new is (wrong g h f n said owes stays) = subst (λ (s : State). IsConsistent s.clauses) (sym stays) is
+step_stays setting told state line reply owed new is (long h said owes stays) = subst IsConsistent (sym stays) is
+step_stays setting told state line reply owed new is (silent h said owes stays) = subst IsConsistent (sym stays) is
+step_stays setting told state line reply owed new is (foreign g h n said owes stays) = subst IsConsistent (sym stays) is
+step_stays setting told state line reply owed new is (wrong g h f n said owes stays) = subst IsConsistent (sym stays) is
 step_stays setting told state line reply owed new is (performed g command means performs owes) = performs_stays setting command state reply new is performs
 step_stays setting told state line reply owed new is (loaded g file means performs) = load_stays setting told file state reply owed new is performs

@@ -4,8 +4,7 @@ use Rattle.si_defs.specs.Clauses.{Clause}
 use Rattle.si_defs.specs.Entries.{clause_symbols, state_symbols}
 use Rattle.si_state.specs.States.{Rules}
 use Rattle.si_state.specs.Acceptance.{Accepts, Refusal, taken, misused, full, Refuses}
-use Rattle.si_laws.specs.OneReply.{IsConsistent}
-use Rattle.si_laws.proofs.StateLaws.{same_clash, no_clash}
+use Rattle.si_laws.proofs.StateLaws.{AreConsistent, same_clash, no_clash}
 
 module _ (rules : Rules) (state : List Clause) (c : Clause) where
   pub accepts_or_refuses : (new : List Clause) (why : Refusal) → Accepts rules state c new → Refuses rules state c why → ⊥
@@ -13,7 +12,7 @@ module _ (rules : Rules) (state : List Clause) (c : Clause) where
   accepts_or_refuses new (misused n f k) accepts refuses = no_clash (state_symbols state) (clause_symbols c) n f k refuses.1 accepts.agree
   accepts_or_refuses new (full n) accepts refuses = absurd (omega (arith, accepts.room, refuses.2))
 
-  pub one_refusal : IsConsistent state → (why other : Refusal) → Refuses rules state c why → Refuses rules state c other → why ≡ other
+  pub one_refusal : AreConsistent state → (why other : Refusal) → Refuses rules state c why → Refuses rules state c other → why ≡ other
   one_refusal is taken taken h k = refl
   one_refusal is taken (misused n g l) h k = absurd (k.0 h)
   one_refusal is taken (full n) h k = absurd (k.0 h)

@@ -19,7 +19,7 @@ use Rattle.si_steps.specs.Steps.{Performs}
 use Rattle.si_laws.specs.OneReply.{IsConsistent, HasOneOutcome}
 use Rattle.si_laws.proofs.ItemLaws.{one_item, item_is}
 use Rattle.si_laws.proofs.RefusalLaws.{accepts_or_refuses, one_refusal}
-use Rattle.si_laws.proofs.StateLaws.{consistent_more}
+use Rattle.si_laws.proofs.StateLaws.{AreConsistent, consistent_more}
 use Rattle.si_laws.proofs.LoadLaws.{accepted_stay}
 use Rattle.si_laws.proofs.AnswerLaws.{same_answer}
 use Rattle.si_steps.proofs.OneSample.{no_other_text}
@@ -55,7 +55,7 @@ module _ (rules : Rules) where
   pub all_or_first : (state clauses : List Clause) (c : Clause) (why : Refusal) → AreAccepted rules state clauses → IsFirstRefused rules state clauses c why → ⊥
   all_or_first state clauses c why h f = none_refused state clauses f.before f.after c why f.splits h f.refused
 
-  first_same : (state front begin back end : List Clause) (c d : Clause) (why because : Refusal) → IsConsistent state → front ++ c ∷ back ≡ begin ++ d ∷ end
+  first_same : (state front begin back end : List Clause) (c d : Clause) (why because : Refusal) → AreConsistent state → front ++ c ∷ back ≡ begin ++ d ∷ end
       → AreAccepted rules state front → AreAccepted rules state begin → Refuses rules (state ++ front) c why → Refuses rules (state ++ begin) d because
       → (c ≡ d) × (why ≡ because)
   first_same state [] [] back end c d why because is e h k r q =
@@ -78,7 +78,7 @@ module _ (rules : Rules) where
       (subst (λ s. Refuses rules s c why) (sym (append_assoc state (x ∷ []) front)) r)
       (subst (λ s. Refuses rules s d because) (sym (append_assoc state (x ∷ []) begin)) (subst (λ z. Refuses rules (state ++ z ∷ begin) d because) (sym same) q))
 
-  pub one_first : (state clauses : List Clause) (c d : Clause) (why because : Refusal) → IsConsistent state → IsFirstRefused rules state clauses c why
+  pub one_first : (state clauses : List Clause) (c d : Clause) (why because : Refusal) → AreConsistent state → IsFirstRefused rules state clauses c why
       → IsFirstRefused rules state clauses d because → (c ≡ d) × (why ≡ because)
   one_first state clauses c d why because is f g =
       first_same state f.before g.before f.after g.after c d why because is (sym f.splits ∙ g.splits) f.earlier g.earlier f.refused g.refused
@@ -99,7 +99,7 @@ one_sum all ((c, e) ∷ es) m n (p, hits, others, of, answer, sums, whole) (q, f
     whole ∙ (λ i. length (same i) + more i) ∙ sym parts
 
 -- ---- the command
-pub one_sample : (setting : Setting) (start count : ℕ) (state : State) → IsConsistent state.clauses → HasOneOutcome setting (sample start count) state
+pub one_sample : (setting : Setting) (start count : ℕ) (state : State) → IsConsistent state → HasOneOutcome setting (sample start count) state
 one_sample setting start count state is reply other new behind (cs, drawn, inl (c, why, first, said, stays)) (ds, drawn_too, inl (d, because, first_too, said_too, stays_too)) =
     let clauses = one_drawn start count cs ds drawn drawn_too in
     let same = one_first setting.rules state.clauses cs c d why because is first (subst (λ l. IsFirstRefused setting.rules state.clauses l d because) (sym clauses) first_too) in
@@ -116,7 +116,7 @@ one_sample setting start count state is reply other new behind (cs, drawn, inr (
     (subst (λ (s : State). SumsAnswers (state_entries s.clauses) (state_entries cs) n) (sym states) (subst (λ l. SumsAnswers (state_entries behind.clauses) (state_entries l) n) (sym clauses) sums_too)) in
     (said ∙ (λ i. sample_line (length (clauses i)) (length (state_entries (clauses i))) (sum i) ∷ []) ∙ sym said_too, states)
 
-pub sample_stays : (setting : Setting) (start count : ℕ) (state : State) (reply : Reply) (new : State) → IsConsistent state.clauses
-    → Performs setting (sample start count) state reply new → IsConsistent new.clauses
-sample_stays setting start count state reply new is (cs, drawn, inl h) = subst (λ (s : State). IsConsistent s.clauses) (sym h.4) is
-sample_stays setting start count state reply new is (cs, drawn, inr h) = subst (λ (s : State). IsConsistent s.clauses) (sym h.4) (accepted_stay setting.rules state.clauses cs is h.1)
+pub sample_stays : (setting : Setting) (start count : ℕ) (state : State) (reply : Reply) (new : State) → IsConsistent state
+    → Performs setting (sample start count) state reply new → IsConsistent new
+sample_stays setting start count state reply new is (cs, drawn, inl h) = subst IsConsistent (sym h.4) is
+sample_stays setting start count state reply new is (cs, drawn, inr h) = subst IsConsistent (sym h.4) (accepted_stay setting.rules state.clauses cs is h.1)

@@ -133,17 +133,21 @@ same_count state m n (xs, one, members, count) (ys, other, those, number) =
     omega (arith, at_most, at_least, count, number)
 
 -- ---- consistent lists
-pub consistent_none : IsConsistent []
+-- a state of these clauses is consistent
+abbrev pub AreConsistent : List Clause → Type 0
+AreConsistent clauses = IsConsistent (record { clauses = clauses })
+
+pub consistent_none : AreConsistent []
 consistent_none = record { distinct = tt; agree = tt }
 
-pub consistent_more : (rules : Rules) (state : List Clause) (c : Clause) (new : List Clause) → IsConsistent state → Accepts rules state c new → IsConsistent new
+pub consistent_more : (rules : Rules) (state : List Clause) (c : Clause) (new : List Clause) → AreConsistent state → Accepts rules state c new → AreConsistent new
 consistent_more rules state c new is accepts =
-    subst IsConsistent (sym accepts.added) (record { distinct = names_more state c is.distinct accepts.free; agree = symbols_more state c is.agree accepts.agree })
+    subst AreConsistent (sym accepts.added) (record { distinct = names_more state c is.distinct accepts.free; agree = symbols_more state c is.agree accepts.agree })
 
-pub consistent_less : (state : List Clause) (name : Name) (c : Clause) (new : List Clause) → IsConsistent state → Removes state name c new → IsConsistent new
+pub consistent_less : (state : List Clause) (name : Name) (c : Clause) (new : List Clause) → AreConsistent state → Removes state name c new → AreConsistent new
 consistent_less state name c new is removes =
-    let of = subst IsConsistent removes.splits is in
-    subst IsConsistent (sym removes.rest) (record {
+    let of = subst AreConsistent removes.splits is in
+    subst AreConsistent (sym removes.rest) (record {
       distinct = names_less removes.before c removes.after of.distinct;
       agree = symbols_less removes.before c removes.after of.agree;
     })

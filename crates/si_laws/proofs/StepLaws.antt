@@ -36,7 +36,7 @@ load_is : (file name : Bytes) → load file ≡ load name → file ≡ name
 load_is file name e = cc
 
 -- they are the same where two loads are
-module _ (setting : Setting) (told tell : Option Files) (state : State) (line : Bytes) (is : IsConsistent state.clauses) (one : HasOneMeaning line)
+module _ (setting : Setting) (told tell : Option Files) (state : State) (line : Bytes) (is : IsConsistent state) (one : HasOneMeaning line)
     (reply other : Reply) (owed due : Owed) (new behind : State)
     (loads : (file : Bytes) → Means (load file) line → PerformsLoad setting told file state reply owed new → PerformsLoad setting tell file state other due behind → (reply ≡ other) × (owed ≡ due) × (new ≡ behind)) where
   same : (r : Reply) → reply ≡ r → other ≡ r → owed ≡ nothing → due ≡ nothing → new ≡ state → behind ≡ state → AreAlikeTo line reply other × (owed ≡ due) × (new ≡ behind)
@@ -92,11 +92,11 @@ module _ (setting : Setting) (told tell : Option Files) (state : State) (line : 
       (subst (λ f. PerformsLoad setting tell f state other due behind) (load_is name file (one (load name) (load file) means_too means)) performs_too) in
       (inl load_one.0, load_one.1, load_one.2)
 
-pub one_step : (setting : Setting) (files : Files) (state : State) (line : Bytes) → IsConsistent state.clauses → HasOneMeaning line → OneRightStep setting files state line
+pub one_step : (setting : Setting) (files : Files) (state : State) (line : Bytes) → IsConsistent state → HasOneMeaning line → OneRightStep setting files state line
 one_step setting files state line is one reply other owed due new behind step step_too a b =
     two_steps setting (Some files) (Some files) state line is one reply other owed due new behind
     (λ file means h k. one_load setting files file state is reply other owed due new behind h k a b) step step_too
 
-pub one_step_without_load : (setting : Setting) (state : State) (line : Bytes) → IsConsistent state.clauses → HasOneMeaning line → LoadsNothing line → OneStepOfAnyLibrary setting state line
+pub one_step_without_load : (setting : Setting) (state : State) (line : Bytes) → IsConsistent state → HasOneMeaning line → LoadsNothing line → OneStepOfAnyLibrary setting state line
 one_step_without_load setting state line is one none told tell reply other owed due new behind step step_too =
     two_steps setting told tell state line is one reply other owed due new behind (λ file means h k. absurd (none file means)) step step_too

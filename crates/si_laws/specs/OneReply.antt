@@ -1,7 +1,6 @@
 -- That there is at most one right reply, numbers of nodes aside, and one right state after it.
 use Rattle.std.specs.Prelude.{◌≡◌, ℕ, ◌⊎◌, List, [], ◌∷◌, Option, Some}
 use Rattle.si_defs.specs.Bytes.{Bytes}
-use Rattle.si_defs.specs.Clauses.{Clause}
 use Rattle.si_defs.specs.Entries.{state_symbols}
 use Rattle.si_state.specs.States.{State, empty_state}
 use Rattle.si_state.specs.Acceptance.{HasDistinctNames, AllAgree}
@@ -15,9 +14,9 @@ use Rattle.si_steps.specs.FileWords.{RightWord}
 use Rattle.si_steps.specs.Runs.{Request, a_word, a_line}
 
 -- names are distinct, and each symbol has one side and one arity
-pub record IsConsistent (clauses : List Clause) : Type 0 where
-  pub distinct : HasDistinctNames clauses
-  pub agree : AllAgree [] (state_symbols clauses)
+pub record IsConsistent (state : State) : Type 0 where
+  pub distinct : HasDistinctNames state.clauses
+  pub agree : AllAgree [] (state_symbols state.clauses)
 
 -- the reply reports no failure of the library
 abbrev pub ReportsNoFailure : Owed → Type 0
@@ -85,8 +84,8 @@ OneStepOfAnyLibrary setting state line =
 -- a right step keeps the state so
 abbrev pub StaysConsistent : Setting → Option Files → State → Bytes → Type 0
 StaysConsistent setting told state line =
-    (reply : Reply) (owed : Owed) (new : State) → IsConsistent state.clauses
-    → RightStep setting told state line reply owed new → IsConsistent new.clauses
+    (reply : Reply) (owed : Owed) (new : State) → IsConsistent state
+    → RightStep setting told state line reply owed new → IsConsistent new
 
 -- ---- sessions
 -- two right steps over the word are the same, where none reports a failure

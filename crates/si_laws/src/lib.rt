@@ -21,14 +21,14 @@ ghost use Rattle.si_steps.specs.Runs.{Request, Run};
 /// They depend on the limits, the rules of acceptance, the command and the state alone.
 pub fn commands_have_one_outcome()
     ensures { (setting : Setting) (command : Command) (state : State)
-        → IsConsistent state.clauses → HasOneOutcome setting command state }
+        → IsConsistent state → HasOneOutcome setting command state }
 {}
 
 /// So has a load in such a state, except that the library may fail: the files that it tells decide
 /// too.
 pub fn loads_have_one_outcome()
     ensures { (setting : Setting) (files : Files) (file : Bytes) (state : State)
-        → IsConsistent state.clauses → LoadsToOneOutcome setting files file state }
+        → IsConsistent state → LoadsToOneOutcome setting files file state }
 {}
 
 /// At most one number is right for how many of some entries stand in a relation to a pattern, and
@@ -53,9 +53,9 @@ pub fn lines_have_one_meaning()
 /// the line is no load, whether they are told or not.
 pub fn lines_have_one_right_step()
     ensures step { (setting : Setting) (files : Files) (state : State) (line : Bytes)
-        → IsConsistent state.clauses → OneRightStep setting files state line }
+        → IsConsistent state → OneRightStep setting files state line }
     ensures without_load { (setting : Setting) (state : State) (line : Bytes)
-        → IsConsistent state.clauses → LoadsNothing line → OneStepOfAnyLibrary setting state line }
+        → IsConsistent state → LoadsNothing line → OneStepOfAnyLibrary setting state line }
 {}
 
 /// A right step keeps names distinct, and symbols used in one way, whatever the library tells.
@@ -70,12 +70,12 @@ pub fn runs_stay_consistent()
     ensures { (setting : Setting) (told : Option Files) (strict : Bool) (requests : List Request)
         (output : Bytes) (owed : Owed) (new : State)
         → Run setting told strict empty_state requests output owed new
-        → IsConsistent new.clauses }
+        → IsConsistent new }
 {}
 
 /// In such a state a word that names a file has at most one right step, except that the library may
 /// fail.
 pub fn words_have_one_right_step()
     ensures { (setting : Setting) (files : Files) (state : State) (word : Bytes)
-        → IsConsistent state.clauses → OneRightWord setting files state word }
+        → IsConsistent state → OneRightWord setting files state word }
 {}

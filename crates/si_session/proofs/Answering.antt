@@ -22,7 +22,7 @@ use Rattle.si_io.specs.Lines.{HaveTexts, WritesLines}
 use Rattle.si_io.specs.declared.failed.Failed.{Failed}
 use Rattle.si_defs.proofs.ListLaws.{all_got, get_some, get_here}
 use Rattle.si_index.specs.Kept.{Kept}
-use Rattle.si_index.specs.Searching.{HasCanonicalSolution}
+use Rattle.si_index.specs.Searching.{HasCanonicalSolution, HaveCanonicalSolutions}
 use Rattle.si_index.specs.Finding.{Finding, AreHits, at_position, entries_from_position, position_and_place}
 use Rattle.si_session.specs.Answering.{IsHitOf, IsInside, IsHitLine, ReportsAnswer, hit_line}
 use Rattle.si_session.proofs.EndedLines.{ended-append}
@@ -88,16 +88,16 @@ module _ (relation : Relation) (p : Pattern) (clauses : List Clause) where
       subst (AllByRecursion (λ f. Stands relation p f.1.entry)) (sym h.1.2) (h.0, all_stand es h.1.0 h.1.1)
   all_stand (e ∷ es) fs (inr h) = all_stand es fs h.1
 
-  pub all_solved : HasExactlyOneSolution relation → (es fs : Found) → AreHits relation p es fs → AllByRecursion (λ f. HasCanonicalSolution relation p f.1.entry) fs
+  pub all_solved : HasExactlyOneSolution relation → (es fs : Found) → AreHits relation p es fs → HaveCanonicalSolutions relation p fs
   all_solved one es fs h = by fs (all_stand es fs h) where
-    by : (fs : Found) → AllByRecursion (λ f. Stands relation p f.1.entry) fs → AllByRecursion (λ f. HasCanonicalSolution relation p f.1.entry) fs
+    by : (fs : Found) → AllByRecursion (λ f. Stands relation p f.1.entry) fs → HaveCanonicalSolutions relation p fs
     by [] stand = tt
     by (f ∷ fs) stand =
         let list = one p f.1.entry stand.0 in
         (record { stands = stand.0; solution = list.0; solves = list.1 }, by fs stand.1)
 
   -- each of them has its hit
-  pub hits_of : (fs : Found) → AllByRecursion (IsInside clauses) fs → AllByRecursion (λ f. HasCanonicalSolution relation p f.1.entry) fs → (hits : List Hit) × HaveHits fs hits
+  pub hits_of : (fs : Found) → AllByRecursion (IsInside clauses) fs → HaveCanonicalSolutions relation p fs → (hits : List Hit) × HaveHits fs hits
   hits_of [] inside solved = ([], tt)
   hits_of (f ∷ fs) inside solved =
       let others = hits_of fs inside.1 solved.1 in
@@ -120,7 +120,7 @@ module _ (relation : Relation) (p : Pattern) (clauses : List Clause) where
 -- ---- lines
 module _ (f : Finding) where
   -- each hit has a line
-  pub hits_have : AllByRecursion (IsInside f.index.clauses) f.hits → AllByRecursion (λ h. HasCanonicalSolution f.relation f.pattern h.1.entry) f.hits → HaveTexts (IsHitLine f) (length f.hits)
+  pub hits_have : AllByRecursion (IsInside f.index.clauses) f.hits → HaveCanonicalSolutions f.relation f.pattern f.hits → HaveTexts (IsHitLine f) (length f.hits)
   hits_have inside solved n less =
       let x = get_some f.hits n less in
       let c = get_some f.index.clauses x.0.0 (all_got (IsInside f.index.clauses) f.hits n x.0 inside x.1) in

@@ -2,7 +2,7 @@
 ghost use Rattle.std.specs.Prelude.{◌≡◌, ◌<◌, ◌^◌, length};
 ghost use Rattle.std.specs.List.{AllByRecursion};
 ghost use Rattle.si_term.specs.Meaning.{name_of, place_of};
-ghost use Rattle.si_index.specs.Searching.{HasCanonicalSolution};
+ghost use Rattle.si_index.specs.Searching.{HaveCanonicalSolutions};
 ghost use Rattle.si_reply.specs.NamedLists.{ShowsList};
 ghost use Rattle.si_reply.specs.ShownTexts.{StandForSome, SendsText};
 ghost use Rattle.si_session.specs.Answering.{IsInside, ReportsAnswer, hit_line};
@@ -79,8 +79,7 @@ impl Lines for Hits<'_, '_> {
 /// Writes the answer, in large pieces. This takes no memory.
 pub fn report_answer<K: Sink>(found: &Found<'_>, sink: &mut K) -> Result<(), Failed>
     requires inside { AllByRecursion (IsInside found.now.index.clauses) found.now.hits }
-    requires solved { AllByRecursion (λ hit. HasCanonicalSolution found.now.relation
-        found.now.pattern hit.1.entry) found.now.hits }
+    requires solved { HaveCanonicalSolutions found.now.relation found.now.pattern found.now.hits }
     ensures { ReportsAnswer found.now result (K.shown sink.old) (K.shown sink.new) }
 {
     let count = found.len();

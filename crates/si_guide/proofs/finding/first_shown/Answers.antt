@@ -15,7 +15,7 @@ returns-then-len-eq0 c =
 pub returns : goal.returns
 returns c =
     let found = c.in_ok-found.ensures in
-    shows_first c.in_ok-found.found c.args.index.now c.args.relation (pattern_of c.args.pattern.now) c.in_ok-shown.shown found.index found.relation found.pattern
+    shows_first c.in_ok-found.found c.args.index.now c.args.relation (pattern_of c.args.pattern.now) c.in_ok-shown.shown found.asked.index found.asked.relation found.asked.pattern
     (trees_find c.args.index.now c.trees.result.now c.args.relation (pattern_of c.args.pattern.now) c.trees.ensures.answer c.trees.ensures.trees c.requires c.in_ok-found.found.hits c.in_ok-found.found.passed
     found.hits)
     c.in_ok-shown.ensures

@@ -1,8 +1,7 @@
-use Rattle.std.proofs.Common.{ℕ, sym, subst}
+use Rattle.std.proofs.Common.{sym, subst}
 use Rattle.std.specs.List.{AllByRecursion}
-use Rattle.si_defs.specs.Entries.{Placed}
 use Rattle.si_term.specs.Meaning.{pattern_of}
-use Rattle.si_index.specs.Searching.{HasCanonicalSolution}
+use Rattle.si_index.specs.Searching.{HaveCanonicalSolutions}
 use Rattle.si_session.specs.declared.stepped.Stepped.TheVariants.{Answered}
 use Rattle.si_session.proofs.Acting.{answers, fails, faults_stand, faults_rise}
 use Rattle.si_index.proofs.StandingLaws.{trees_stand, trees_find}
@@ -16,21 +15,21 @@ find-requires-clause-standing g c = trees_stand c.args.index.now c.trees.result.
 pub report_answer-requires-clause-inside : goal.report_answer-requires-clause-inside
 report_answer-requires-clause-inside g c =
     let f = c.in-Ok.found in
-    subst (λ index. AllByRecursion (IsInside index.clauses) f.hits) (sym c.in-Ok.ensures.index)
+    subst (λ index. AllByRecursion (IsInside index.clauses) f.hits) (sym c.in-Ok.ensures.asked.index)
     (are_inside c.args.relation (pattern_of c.args.pattern.now) c.args.index.now.clauses f.hits
     (trees_find c.args.index.now c.trees.result.now c.args.relation (pattern_of c.args.pattern.now) c.trees.ensures.answer c.trees.ensures.trees c.requires c.in-Ok.found.hits c.in-Ok.found.passed c.in-Ok.ensures.hits))
 
 pub report_answer-requires-clause-solved : goal.report_answer-requires-clause-solved
 report_answer-requires-clause-solved g c =
     let f = c.in-Ok.found in
-    subst (λ kind. AllByRecursion (λ (hit : ℕ × Placed). HasCanonicalSolution kind f.pattern hit.1.entry) f.hits) (sym c.in-Ok.ensures.relation)
-    (subst (λ p. AllByRecursion (λ (hit : ℕ × Placed). HasCanonicalSolution c.args.relation p hit.1.entry) f.hits) (sym c.in-Ok.ensures.pattern) c.in-Ok.ensures.solved)
+    subst (λ kind. HaveCanonicalSolutions kind f.pattern f.hits) (sym c.in-Ok.ensures.asked.relation)
+    (subst (λ p. HaveCanonicalSolutions c.args.relation p f.hits) (sym c.in-Ok.ensures.asked.pattern) c.in-Ok.ensures.solved)
 
 pub returns-in-Ok-report_answer-clause-acts : goal.returns-in-Ok-report_answer-clause-acts
 returns-in-Ok-report_answer-clause-acts g c =
     let f = c.in-Ok.found in
     let reported = c.in-Ok-report_answer.ensures in
-    let answer = whole_answer f c.args.index.now c.args.relation (pattern_of c.args.pattern.now) c.in-Ok.ensures.index c.in-Ok.ensures.relation c.in-Ok.ensures.pattern
+    let answer = whole_answer f c.args.index.now c.args.relation (pattern_of c.args.pattern.now) c.in-Ok.ensures.asked.index c.in-Ok.ensures.asked.relation c.in-Ok.ensures.asked.pattern
     (trees_find c.args.index.now c.trees.result.now c.args.relation (pattern_of c.args.pattern.now) c.trees.ensures.answer c.trees.ensures.trees c.requires c.in-Ok.found.hits c.in-Ok.found.passed c.in-Ok.ensures.hits) reported.0 reported.1 in
     answers c.args.relation (pattern_of c.args.pattern.now) c.args.index.now reported.0 answer (g.K.Sink.shown c.args.sink.now) (g.K.Sink.shown c.report_answer.new.sink) reported.2.all
 
@@ -38,7 +37,7 @@ pub returns-clause-acts : goal.returns-clause-acts
 returns-clause-acts g c =
     let f = c.in-Ok.found in
     let reported = c.in-Err-report_answer.ensures in
-    let answer = whole_answer f c.args.index.now c.args.relation (pattern_of c.args.pattern.now) c.in-Ok.ensures.index c.in-Ok.ensures.relation c.in-Ok.ensures.pattern
+    let answer = whole_answer f c.args.index.now c.args.relation (pattern_of c.args.pattern.now) c.in-Ok.ensures.asked.index c.in-Ok.ensures.asked.relation c.in-Ok.ensures.asked.pattern
     (trees_find c.args.index.now c.trees.result.now c.args.relation (pattern_of c.args.pattern.now) c.trees.ensures.answer c.trees.ensures.trees c.requires c.in-Ok.found.hits c.in-Ok.found.passed c.in-Ok.ensures.hits) reported.0 reported.1 in
     fails c.args.relation (pattern_of c.args.pattern.now) c.args.index.now reported.0 answer (g.K.Sink.shown c.args.sink.now) (g.K.Sink.shown c.report_answer.new.sink) reported.2.part
 

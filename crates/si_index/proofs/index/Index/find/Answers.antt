@@ -1,4 +1,4 @@
-use Rattle.std.proofs.Common.{map, sym, subst, arith}
+use Rattle.std.proofs.Common.{map, refl, sym, subst, arith}
 use Rattle.std.specs.List.{AllByRecursion, AllZip}
 use Rattle.std.proofs.lemmas.List.{length-map}
 use Rattle.si_defs.specs.Entries.{pattern_entry}
@@ -111,6 +111,9 @@ invariant_of-result g c = record {
       );
   each = c.in_ok-matches.ensures.each;
 }
+
+pub returns-clause-asked : goal.returns-clause-asked
+returns-clause-asked g c = record { index = refl; relation = refl; pattern = refl }
 
 pub returns-clause-hits : goal.returns-clause-hits
 returns-clause-hits g c =

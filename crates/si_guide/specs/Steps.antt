@@ -1,5 +1,5 @@
 -- What the steps give: a clause that is read, two flat terms, an index, and what is shown of a hit.
-use Rattle.std.specs.Prelude.{◌≡◌, ℕ, List, [], ◌∷◌, Option, None, Some}
+use Rattle.std.specs.Prelude.{◌≡◌, ℕ, Bool, true, false, List, [], ◌∷◌, Option, None, Some}
 use Rattle.si_defs.specs.Bytes.{Bytes}
 use Rattle.si_defs.specs.Clauses as clauses
 use Rattle.si_defs.specs.Clauses.{IsSoundClause, Pattern}
@@ -8,7 +8,6 @@ use Rattle.si_defs.specs.Grammar.{clause_item}
 use Rattle.si_defs.specs.Symbols.{Numbering}
 use Rattle.si_defs.specs.Texts.{BeginsWithItem}
 use Rattle.si_defs.specs.declared.Relation.{Relation}
-use Rattle.si_state.specs.States.{limited_to}
 use Rattle.si_state.specs.Acceptance.{Refusal, Accepts, Refuses}
 use Rattle.si_term.specs.Meaning.{clause_of}
 use Rattle.si_term.specs.declared.clause.Clause.{Clause}
@@ -34,12 +33,12 @@ FlattensBoth pairs pattern e (Some pair) =
     FlattensPattern pairs pattern pair.query × FlattensEntry pairs e (Some pair.entry)
 FlattensBoth pairs pattern e None = FlattensEntry pairs e None
 
--- the index keeps this clause alone; or the clause is refused
-abbrev pub KeepsClause : ℕ → clauses.Clause → Option Kept → Type 0
-KeepsClause limit clause (Some index) =
-    Accepts (limited_to limit) [] clause index.clauses × (index.rules ≡ limited_to limit)
-KeepsClause limit clause None =
-    (refusal : Refusal) × Refuses (limited_to limit) [] clause refusal
+-- the index keeps the clause too; or the clause is refused, and the same are kept
+abbrev pub KeepsClause : clauses.Clause → (old new : Kept) → Bool → Type 0
+KeepsClause clause old new true = Accepts old.rules old.clauses clause new.clauses
+KeepsClause clause old new false =
+    ((refusal : Refusal) × Refuses old.rules old.clauses clause refusal)
+    × (new.clauses ≡ old.clauses)
 
 -- the first of the kept entries that stand in the relation is shown; or none stands in it
 abbrev pub ShowsFirst : Kept → Relation → Pattern → Option Shown → Type 0

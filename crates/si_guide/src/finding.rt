@@ -1,7 +1,6 @@
 // An index, and what a query finds in it.
-ghost use Rattle.std.specs.Prelude.{◌≡◌, ◌≤◌, IfOk};
+ghost use Rattle.std.specs.Prelude.{◌≡◌, IfOk, OnErr};
 ghost use Rattle.si_defs.specs.Clauses.{IsSoundClause, IsSoundPattern};
-ghost use Rattle.si_defs.specs.declared.TheConstants.{MOST_OCCURRENCES};
 ghost use Rattle.si_term.specs.Meaning.{clause_of, pattern_of};
 ghost use Rattle.si_guide.specs.Steps.{KeepsClause, ShowsFirst};
 
@@ -9,22 +8,22 @@ use si_defs::Relation;
 use si_index::{Index, SearchMemory, Shown};
 use si_sign::{AddFault, ClauseStore};
 use si_term::{Clause, Pattern};
-use std::alloc::{AllocError, Global};
+use std::alloc::AllocError;
 
-/// An index that keeps one clause. `None` exactly where the clause is refused.
-pub fn keep(alloc: Global, limit: u64, clause: Clause) -> Result<Option<Index>, AllocError>
-    requires limit { limit ≤ MOST_OCCURRENCES }
-    requires sound { IsSoundClause (clause_of clause) }
-    ensures { IfOk result (KeepsClause limit (clause_of clause)) }
+/// Keeps a clause. `false` exactly where it is refused.
+pub fn keep(index: &mut Index, clause: Clause) -> Result<bool, AllocError>
+    requires { IsSoundClause (clause_of clause) }
+    ensures keeps { IfOk result (KeepsClause (clause_of clause) index.old index.new) }
+    ensures err { OnErr result (index.new.clauses ≡ index.old.clauses) }
+    ensures rules { index.new.rules ≡ index.old.rules }
 {
-    let mut index = Index::new(alloc, limit)?;
     match index.add(clause) {
-        Ok(_) => Ok(Some(index)),
+        Ok(_) => Ok(true),
         Err(rejected) => {
             if let AddFault::Memory = rejected.why {
                 return Err(AllocError);
             }
-            Ok(None)
+            Ok(false)
         }
     }
 }

@@ -112,10 +112,10 @@ fn start<S: Source, K: Sink, L: Library>(
     ensures causes { HasCauses result (S.shown source.old) (S.shown source.new)
         (K.shown sink.old) (K.shown sink.new) }
 {
-    let Ok(mut session) = Session::new(alloc, limits) else {
+    let Ok(mut pending) = Pending::new(alloc, limits.line) else {
         return Status::Memory;
     };
-    let Ok(mut pending) = Pending::new(alloc, limits.line) else {
+    let Ok(mut session) = Session::new(alloc, limits) else {
         return Status::Memory;
     };
     run(

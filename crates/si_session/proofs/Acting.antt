@@ -353,17 +353,7 @@ explain_stepped limits library index line relation p o a b held short performs (
       counted = counts_nothing library.counts library.may_fail;
       library = same_files library;
     }
-explain_stepped limits library index line relation p o a b held short performs (inr w) = record {
-  reply = memory_line ∷ [];
-  owed = nothing;
-  step = memory_at_once (λ h. performs.0 h.1) short refl (inl refl) refl;
-  setting = refl;
-  held = held;
-  own_trees = record { shown = inl refl; stay = inr refl };
-  written = w;
-  counted = counts_nothing library.counts library.may_fail;
-  library = same_files library;
-}
+explain_stepped limits library index line relation p o a b held short performs (inr w) = unread_stepped limits library index line o a b held short performs.0 w
 
 -- ---- a load
 load_some : (setting : Setting) (told : Option Files) (file : Bytes) (state new : State) (reply : Reply) (owed : Owed) → PerformsLoad setting told file state reply owed new → reply ≡ [] → ⊥

@@ -92,9 +92,15 @@ impl Default for Cell {
 }
 
 /// The cells of one term. Contracts see the list of the cells. A short term takes no memory.
-#[derive(Drop)]
 pub struct Flat {
     cells: SmallVec<Cell, 2>,
+}
+
+// Written out for the checker of borrows, as that of a text is.
+impl Drop for Flat {
+    fn drop(self) {
+        let Flat { cells: _cells } = self;
+    }
 }
 
 impl Model for Flat {

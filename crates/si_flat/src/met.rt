@@ -47,10 +47,19 @@ impl SymbolKey<'_> {
 
 /// The variables and the symbols outside the table that a walk has met, each once, in the order in
 /// which they came.
-#[derive(Drop)]
 pub(crate) struct Met<'a> {
     names: NameSet<'a>,
     extra: IndexSet<SymbolKey<'a>>,
+}
+
+// Written out for the checker of borrows, as that of a text is.
+impl Drop for Met<'_> {
+    fn drop(self) {
+        let Met {
+            names: _names,
+            extra: _extra,
+        } = self;
+    }
 }
 
 impl<'a> Met<'a> {

@@ -14,11 +14,20 @@ const FEW: usize = 8;
 
 /// Names, each once, in the order in which they came. The first few are found by comparing them,
 /// and those after them by a hash.
-#[derive(Drop)]
 pub(crate) struct NameSet<'a> {
     all: Vec<&'a [u8]>,
     // Those after the first few.
     hashed: IndexSet<&'a [u8]>,
+}
+
+// Written out for the checker of borrows, as that of a text is.
+impl Drop for NameSet<'_> {
+    fn drop(self) {
+        let NameSet {
+            all: _all,
+            hashed: _hashed,
+        } = self;
+    }
 }
 
 impl<'a> Model for NameSet<'a> {

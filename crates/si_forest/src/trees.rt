@@ -24,12 +24,22 @@ use std::marker::Model;
 
 /// Two substitution trees of the entries of clauses, one of literals and one of subterms. Contracts
 /// see both trees, which are legal.
-#[derive(Drop)]
 pub struct Trees {
     alloc: Global,
     pair: Pair,
     // Where the posting of each entry stands, by the key of its clause and its number.
     notes: Notes,
+}
+
+// Written out for the checker of borrows, as that of a text is.
+impl Drop for Trees {
+    fn drop(self) {
+        let Trees {
+            alloc: _,
+            pair: _pair,
+            notes: _notes,
+        } = self;
+    }
 }
 
 impl Model for Trees {

@@ -16,13 +16,23 @@ use std::marker::Model;
 
 /// Classes, and what is written for each. Where a class with a leader is a part of another, its
 /// leader's variable is written.
-#[derive(Drop)]
 pub(crate) struct Folding {
     classes: Classes,
     // The slot of the leader of each class, if it has one,
     leaders: Vec<Option<usize>>,
     // and how many cells are written for it.
     sizes: Vec<u32>,
+}
+
+// Written out for the checker of borrows, as that of a text is.
+impl Drop for Folding {
+    fn drop(self) {
+        let Folding {
+            classes: _classes,
+            leaders: _leaders,
+            sizes: _sizes,
+        } = self;
+    }
 }
 
 impl Model for Folding {

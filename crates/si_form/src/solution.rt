@@ -30,9 +30,17 @@ impl MadeWith<Global> for Binding {
 }
 
 /// A list of bindings, in order. A short one takes no memory of its own.
-#[derive(Drop)]
 pub struct Solution {
     bindings: SmallVec<Binding, 2>,
+}
+
+// Written out for the checker of borrows, as that of a text is.
+impl Drop for Solution {
+    fn drop(self) {
+        let Solution {
+            bindings: _bindings,
+        } = self;
+    }
 }
 
 impl Model for Solution {

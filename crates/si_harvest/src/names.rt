@@ -10,10 +10,19 @@ use si_term::Name;
 use std::alloc::{AllocError, Global};
 
 /// A set of names, which looks them up without taking memory.
-#[derive(Drop)]
 pub struct NameSet {
     words: IndexSet<Vec<u8>>,
     integers: IndexSet<Vec<u8>>,
+}
+
+// Written out for the checker of borrows, as that of a text is.
+impl Drop for NameSet {
+    fn drop(self) {
+        let NameSet {
+            words: _words,
+            integers: _integers,
+        } = self;
+    }
 }
 
 impl NameSet {

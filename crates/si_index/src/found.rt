@@ -29,7 +29,6 @@ pub struct Hit {
 }
 
 /// The canonical list of a hit, and what its numbers stand for.
-#[derive(Drop)]
 pub struct Shown {
     /// The list. Its symbols have the numbers of the index, and those of `extra`.
     pub solution: Solution,
@@ -40,6 +39,18 @@ pub struct Shown {
     /// The symbols of the pattern that the index lacks. The one at place `k` has the number
     /// `2_147_483_648 + 2 * k`.
     pub extra: Syms,
+}
+
+// Written out for the checker of borrows, as that of a text is.
+impl Drop for Shown {
+    fn drop(self) {
+        let Shown {
+            solution: _solution,
+            query_names: _query_names,
+            entry_names: _entry_names,
+            extra: _extra,
+        } = self;
+    }
 }
 
 /// The parts of a `Shown`, lent by what was found.
@@ -53,12 +64,23 @@ pub struct Lent<'a, 'b> {
 
 /// The entries that stand in a relation to a pattern, in the order of acceptance and of entries,
 /// and what the engine that found them counted.
-#[derive(Drop)]
 pub struct Found<'a> {
     search: Search<'a>,
     query_names: Texts,
     matches: Matches<'a>,
     passed: u64,
+}
+
+// Written out for the checker of borrows, as that of a text is.
+impl Drop for Found<'_> {
+    fn drop(self) {
+        let Found {
+            search: _search,
+            query_names: _query_names,
+            matches: _matches,
+            passed: _,
+        } = self;
+    }
 }
 
 impl<'a> Model for Found<'a> {

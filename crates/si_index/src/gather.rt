@@ -31,10 +31,19 @@ pub(crate) struct Match<'a> {
 }
 
 /// The entries that were found, and their leaves, whose lists are made.
-#[derive(Drop)]
 pub(crate) struct Matches<'a> {
     pub(crate) found: Vec<Match<'a>>,
     pub(crate) leaves: Vec<Leaf>,
+}
+
+// Written out for the checker of borrows, as that of a text is.
+impl Drop for Matches<'_> {
+    fn drop(self) {
+        let Matches {
+            found: _found,
+            leaves: _leaves,
+        } = self;
+    }
 }
 
 /// A walk through the entries of a clause.

@@ -31,6 +31,8 @@ Tells slots left right None = HaveSlots slots left right → HaveCommon slots []
 
 -- the numbers of cells of two terms of so many variables each, and the answer to them
 pub record SolvesCells (n : ℕ) (left right : List Cell) (measured : Measured) : Type 0 where
+  pub left_whole : IsWhole left
+  pub right_whole : IsWhole right
   pub left_cells : measured.left ≡ length left
   pub right_cells : measured.right ≡ length right
   pub tells : Tells (slots_for n) left right measured.bindings
@@ -48,6 +50,4 @@ pub record SolvesTerms (measured : Measured) : Type 0 where
   pub variables : ℕ
   pub left : List Cell
   pub right : List Cell
-  pub left_whole : IsWhole left
-  pub right_whole : IsWhole right
   pub solves : SolvesCells variables left right measured

@@ -7,9 +7,15 @@ use si_term::Text;
 use std::alloc::{AllocError, Global};
 
 /// A finite map from texts to keys.
-#[derive(Drop)]
 pub struct TextKeys {
     keys: IndexMap<Text, usize>,
+}
+
+// Written out for the checker of borrows, as that of a text is.
+impl Drop for TextKeys {
+    fn drop(self) {
+        let TextKeys { keys: _keys } = self;
+    }
 }
 
 impl TextKeys {

@@ -1,4 +1,6 @@
 // Names, literals, clauses, patterns, and where entries stand.
+ghost use Rattle.std.specs.Prelude.{◌≡◌};
+
 use crate::list::Literals;
 use crate::path::Path;
 use crate::term::Term;
@@ -13,10 +15,29 @@ pub struct Name {
 }
 
 /// An atom, or its negation.
-#[derive(Drop)]
 pub struct Literal {
     pub positive: bool,
     pub atom: Term,
+}
+
+// Written out for the checker of borrows, as that of a text is.
+impl Drop for Literal {
+    fn drop(self) {
+        let Literal {
+            positive: _,
+            atom: _atom,
+        } = self;
+    }
+}
+
+impl Literal {
+    /// The atom alone.
+    pub fn into_atom(self) -> Term
+        ensures { result ≡ self.atom }
+    {
+        let Literal { positive: _, atom } = self;
+        atom
+    }
 }
 
 /// A clause of a TPTP file: a disjunction of literals, with its name and role.
@@ -36,10 +57,19 @@ pub struct Place {
 }
 
 /// What a query looks for.
-#[derive(Drop)]
 pub enum Pattern {
     Lit(Literal),
     Term(Term),
+}
+
+// Written out for the checker of borrows, as that of a text is.
+impl Drop for Pattern {
+    fn drop(self) {
+        match self {
+            Pattern::Lit(_literal) => {}
+            Pattern::Term(_term) => {}
+        }
+    }
 }
 
 /// What a query looks at: a literal of a clause, or a proper subterm of its atom that is no

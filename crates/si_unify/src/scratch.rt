@@ -82,9 +82,15 @@ impl Buffers {
 /// It is made once and lent to each call. It is empty between calls, whatever they answered, and
 /// keeps what its buffers grew to: a call that needs no more takes no memory. Contracts see how
 /// much fits in it.
-#[derive(Drop)]
 pub struct Scratch {
     pub(crate) buffers: Buffers,
+}
+
+// Written out for the checker of borrows, as that of a text is.
+impl Drop for Scratch {
+    fn drop(self) {
+        let Scratch { buffers: _buffers } = self;
+    }
 }
 
 impl Model for Scratch {

@@ -92,7 +92,7 @@ fn atom<'t, 'b>(alloc: Global, tokens: &'t [Lexeme<'b>]) -> Result<Parsed<'t, 'b
         return Ok(None);
     };
     if literal.positive {
-        Ok(Some((literal.atom, rest)))
+        Ok(Some((literal.into_atom(), rest)))
     } else {
         Ok(None)
     }

@@ -1,6 +1,4 @@
-use Rattle.std.proofs.Common.{subst}
 use Rattle.std.proofs.lemmas.Result.{IfOk-weaker}
-use Rattle.si_flat.specs.Cells.{IsWhole}
 use Rattle.si_measure.specs.Answers.{SolvesTerms}
 use Rattle.si_measure.proofs.random.measure.Goals as goal
 
@@ -11,8 +9,6 @@ returns c =
       variables = _;
       left = c.in_ok-terms.terms.left;
       right = c.in_ok-terms.terms.right;
-      left_whole = subst IsWhole c.terms-2.view_is c.terms-2.invariant;
-      right_whole = subst IsWhole c.terms-4.view_is c.terms-4.invariant;
       solves = h;
     })
     c.solve_often.ensures

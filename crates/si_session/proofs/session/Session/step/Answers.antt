@@ -6,12 +6,11 @@ use Rattle.si_steps.specs.Replies.{language_line, syntax_line}
 use Rattle.si_steps.specs.Steps.{silent, foreign, wrong}
 use Rattle.si_io.proofs.Sends.{SendsAll-nil}
 use Rattle.si_session.specs.declared.stepped.Stepped.TheVariants.{Silent}
-use Rattle.si_session.specs.Session.{View, Steps, around, view_of}
+use Rattle.si_session.specs.Session.{Steps, around, view_of}
 use Rattle.si_session.specs.Commands.{ReadsCommand}
 use Rattle.si_session.specs.declared.command.Command.TheVariants as command
 use Rattle.si_session.proofs.Acting.{faults_stand, stepped, not_silent, keeps_state, counts, trees_stepped, explain_stepped, blanks_no_command, line_stepped, long_stepped, unread_stepped, holds_trees, load_stepped, load_not_silent, load_keeps}
 use Rattle.si_session.proofs.session.Session.step.Goals as goal
-use Rattle.si_session.proofs.session.Session.step.Goals.{in-Lit+in-Var+in-Long-1, in-Lit+in-Var+in-Short-1, in-Lit+in-App+in-Empty-1, in-Lit+in-App+in-Many-1, in-Lit+in-App+in-One-1, in-Lit+in-App+in-Pair-1, in-Lit+in-App+in-Three-1, in-Term+in-Var+in-Long-1, in-Term+in-Var+in-Short-1, in-Term+in-App+in-Empty-1, in-Term+in-App+in-Many-1, in-Term+in-App+in-One-1, in-Term+in-App+in-Pair-1, in-Term+in-App+in-Three-1, in-Lit+in-Var+in-Long-2, in-Lit+in-Var+in-Short-2, in-Lit+in-App+in-Empty-2, in-Lit+in-App+in-Many-2, in-Lit+in-App+in-One-2, in-Lit+in-App+in-Pair-2, in-Lit+in-App+in-Three-2, in-Term+in-Var+in-Long-2, in-Term+in-Var+in-Short-2, in-Term+in-App+in-Empty-2, in-Term+in-App+in-Many-2, in-Term+in-App+in-One-2, in-Term+in-App+in-Pair-2, in-Term+in-App+in-Three-2}
 
 pub returns-in-Ok-Add-clause-step : goal.returns-in-Ok-Add-clause-step
 returns-in-Ok-Add-clause-step g c =
@@ -32,26 +31,8 @@ returns-in-Ok-Query-clause-step g c =
     let library = g.L.Library.shown c.args.library.now in
     let read : ReadsCommand c.args.line.now (command.Query c.in-Ok-Query.relation c.in-Ok-Query.pattern) = subst (ReadsCommand c.args.line.now) c.in-Ok-Query.field-0-is c.in-Ok-Query.ensures.read in
     let short : length c.args.line.now ≤ limits.line = omega (arith, c.if-line-self.false) in
-    let done : Steps c.args.self.now (view_of limits c.self.inside.index) (a_line c.args.line.now) c.answer.result (around a library) (around b library) =
     subst (λ s. Steps s (view_of limits c.self.inside.index) (a_line c.args.line.now) c.answer.result (around a library) (around b library)) c.self.view_is
-    (stepped limits library c.self.inside.index c.self.inside.index c.args.line.now (query c.in-Ok-Query.relation (pattern_of c.in-Ok-Query.pattern)) c.answer.result a b (holds_trees limits c.self.inside.index c.trees.ensures.keyed c.trees.ensures.exactly c.trees.ensures.hold) refl short read.0 c.answer.ensures.acts (λ reply. tt) (inr refl)) in
-    let steps : (new : View) → new ≡ view_of limits c.self.inside.index → Steps c.args.self.now new (a_line c.args.line.now) c.answer.result (around a library) (around b library) = λ new is. subst (λ n. Steps c.args.self.now n (a_line c.args.line.now) c.answer.result (around a library) (around b library)) (sym is) done in
-    elim c.match-pattern.branch [
-      | in-Lit+in-Var+in-Long-1 w ↦ steps _ w.self-is
-      | in-Lit+in-Var+in-Short-1 w ↦ steps _ w.self-is
-      | in-Lit+in-App+in-Empty-1 w ↦ steps _ w.self-is
-      | in-Lit+in-App+in-Many-1 w ↦ steps _ w.self-is
-      | in-Lit+in-App+in-One-1 w ↦ steps _ w.self-is
-      | in-Lit+in-App+in-Pair-1 w ↦ steps _ w.self-is
-      | in-Lit+in-App+in-Three-1 w ↦ steps _ w.self-is
-      | in-Term+in-Var+in-Long-1 w ↦ steps _ w.self-is
-      | in-Term+in-Var+in-Short-1 w ↦ steps _ w.self-is
-      | in-Term+in-App+in-Empty-1 w ↦ steps _ w.self-is
-      | in-Term+in-App+in-Many-1 w ↦ steps _ w.self-is
-      | in-Term+in-App+in-One-1 w ↦ steps _ w.self-is
-      | in-Term+in-App+in-Pair-1 w ↦ steps _ w.self-is
-      | in-Term+in-App+in-Three-1 w ↦ steps _ w.self-is
-    ]
+    (stepped limits library c.self.inside.index c.self.inside.index c.args.line.now (query c.in-Ok-Query.relation (pattern_of c.in-Ok-Query.pattern)) c.answer.result a b (holds_trees limits c.self.inside.index c.trees.ensures.keyed c.trees.ensures.exactly c.trees.ensures.hold) refl short read.0 c.answer.ensures.acts (λ reply. tt) (inr refl))
 
 pub returns-in-Ok-Remove-clause-step : goal.returns-in-Ok-Remove-clause-step
 returns-in-Ok-Remove-clause-step g c =
@@ -247,26 +228,8 @@ returns-in-Ok-Explain-clause-step g c =
     let library = g.L.Library.shown c.args.library.now in
     let read : ReadsCommand c.args.line.now (command.Explain c.in-Ok-Explain.relation c.in-Ok-Explain.pattern) = subst (ReadsCommand c.args.line.now) c.in-Ok-Explain.field-0-is c.in-Ok-Explain.ensures.read in
     let short : length c.args.line.now ≤ limits.line = omega (arith, c.if-line-self.false) in
-    let done : Steps c.args.self.now (view_of limits c.self.inside.index) (a_line c.args.line.now) c.explain.result (around a library) (around b library) =
     subst (λ s. Steps s (view_of limits c.self.inside.index) (a_line c.args.line.now) c.explain.result (around a library) (around b library)) c.self.view_is
-    (explain_stepped limits library c.self.inside.index c.args.line.now c.in-Ok-Explain.relation (pattern_of c.in-Ok-Explain.pattern) c.explain.result a b (holds_trees limits c.self.inside.index c.trees.ensures.keyed c.trees.ensures.exactly c.trees.ensures.hold) short read.0 c.explain.ensures.reports) in
-    let steps : (new : View) → new ≡ view_of limits c.self.inside.index → Steps c.args.self.now new (a_line c.args.line.now) c.explain.result (around a library) (around b library) = λ new is. subst (λ n. Steps c.args.self.now n (a_line c.args.line.now) c.explain.result (around a library) (around b library)) (sym is) done in
-    elim c.match-pattern-6.branch [
-      | in-Lit+in-Var+in-Long-2 w ↦ steps _ w.self-is
-      | in-Lit+in-Var+in-Short-2 w ↦ steps _ w.self-is
-      | in-Lit+in-App+in-Empty-2 w ↦ steps _ w.self-is
-      | in-Lit+in-App+in-Many-2 w ↦ steps _ w.self-is
-      | in-Lit+in-App+in-One-2 w ↦ steps _ w.self-is
-      | in-Lit+in-App+in-Pair-2 w ↦ steps _ w.self-is
-      | in-Lit+in-App+in-Three-2 w ↦ steps _ w.self-is
-      | in-Term+in-Var+in-Long-2 w ↦ steps _ w.self-is
-      | in-Term+in-Var+in-Short-2 w ↦ steps _ w.self-is
-      | in-Term+in-App+in-Empty-2 w ↦ steps _ w.self-is
-      | in-Term+in-App+in-Many-2 w ↦ steps _ w.self-is
-      | in-Term+in-App+in-One-2 w ↦ steps _ w.self-is
-      | in-Term+in-App+in-Pair-2 w ↦ steps _ w.self-is
-      | in-Term+in-App+in-Three-2 w ↦ steps _ w.self-is
-    ]
+    (explain_stepped limits library c.self.inside.index c.args.line.now c.in-Ok-Explain.relation (pattern_of c.in-Ok-Explain.pattern) c.explain.result a b (holds_trees limits c.self.inside.index c.trees.ensures.keyed c.trees.ensures.exactly c.trees.ensures.hold) short read.0 c.explain.ensures.reports)
 
 pub returns-in-Some-clause-step : goal.returns-in-Some-clause-step
 returns-in-Some-clause-step g c =

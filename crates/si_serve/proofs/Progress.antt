@@ -15,7 +15,7 @@ use Rattle.si_io.specs.Counts.{raised}
 use Rattle.si_io.specs.Shown.{SinkShown}
 use Rattle.si_io.specs.Sends.{SendsAll}
 use Rattle.si_io.proofs.Sends.{SendsAll_then}
-use Rattle.si_session.specs.Session.{View, Around, Writes, Steps, CountsSinkFault, HasCountedOwed}
+use Rattle.si_session.specs.Session.{View, Around, Writes, Steps, HasCountedOwed}
 use Rattle.si_session.proofs.Owing.{counts_nothing, counts_then}
 use Rattle.si_session.specs.declared.stepped.Stepped.{Stepped}
 use Rattle.si_session.specs.declared.stepped.Stepped.TheVariants.{Answered, Refused, Silent, SinkFailed}
@@ -277,6 +277,23 @@ written_whole Silent reply now after whole w = w.0
 written_whole SinkFailed reply now after whole w = absurd (whole refl)
 
 -- ---- the sink's faults
+-- as many as before where the step didn't fail at the sink, and else one more
+module _ (outcome : Stepped) (reply : Reply) (now after : SinkShown) (w : Writes outcome reply now after) where
+  no_fewer_faults : now.counts.faults ≤ after.counts.faults
+  no_fewer_faults = by outcome w where
+    by : (o : Stepped) → Writes o reply now after → now.counts.faults ≤ after.counts.faults
+    by Answered h = h.0.few.faults
+    by Refused h = h.0.few.faults
+    by Silent h = h.0.few.faults
+    by SinkFailed h = h.few.faults
+
+  same_faults : (outcome ≡ SinkFailed → ⊥) → after.counts.faults ≡ now.counts.faults
+  same_faults whole = (written_whole outcome reply now after whole w).faults
+
+  one_fault_more : outcome ≡ SinkFailed → after.counts.faults ≡ raised now.counts.faults
+  one_fault_more failed = let part : Writes SinkFailed reply now after = subst (λ (o : Stepped). Writes o reply now after) failed w in part.faults
+
+-- by what the run makes of the step
 module _ (strict : Bool) (outcome : Stepped) (old new : ℕ)
     (kept : (outcome ≡ SinkFailed → ⊥) → new ≡ old) (failed : outcome ≡ SinkFailed → new ≡ raised old) where
   faults_kept : (r : Result (Unit {0}) Stop) → Judges strict outcome r → OnOk r (new ≡ old)
@@ -304,7 +321,7 @@ pub steps_at : (old new : View) (line held : Bytes) (outcome : Stepped) (now aft
 steps_at old new line held outcome now after same s = subst (λ (l : Bytes). Steps old new (a_line l) outcome now after) same s
 
 module _ (strict : Bool) (old new : View) (request : Request) (outcome : Stepped) (now after : Around)
-    (s : Steps old new request outcome now after) (faults : CountsSinkFault outcome now.sink after.sink) where
+    (s : Steps old new request outcome now after) where
   acted : (r : Result (Unit {0}) Stop) → Judges strict outcome r → OnOk r (ActsOnRequest old.setting now.library.files strict old.state new.state request now after)
   acted (Ok done) h = record {
     reply = s.reply;
@@ -329,19 +346,22 @@ module _ (strict : Bool) (old new : View) (request : Request) (outcome : Stepped
   }
 
   pub acts_or_stops : (r : Result (Unit {0}) Stop) → Judges strict outcome r → ActsOrStops strict r old new request now after
-  acts_or_stops r h = record {
-    acted = acted r h;
-    broken = broken r h;
-    rest = record {
-      setting = s.setting;
-      library = s.library;
-      faults = record {
-        later = faults.later;
-        kept = faults_kept strict outcome now.sink.counts.faults after.sink.counts.faults faults.kept faults.failed r h;
-        blames = faults_blamed strict outcome now.sink.counts.faults after.sink.counts.faults faults.kept faults.failed r h;
-      };
-    };
-  }
+  acts_or_stops r h =
+      let same = same_faults outcome s.reply now.sink after.sink s.written in
+      let more = one_fault_more outcome s.reply now.sink after.sink s.written in
+      record {
+        acted = acted r h;
+        broken = broken r h;
+        rest = record {
+          setting = s.setting;
+          library = s.library;
+          faults = record {
+            later = no_fewer_faults outcome s.reply now.sink after.sink s.written;
+            kept = faults_kept strict outcome now.sink.counts.faults after.sink.counts.faults same more r h;
+            blames = faults_blamed strict outcome now.sink.counts.faults after.sink.counts.faults same more r h;
+          };
+        };
+      }
 
 -- ---- to the end, or to a stop
 pub counts_on : (a b : SinkShown) → b.counts.faults ≡ a.counts.faults → CountsStop (Ok (tt {0})) a b

@@ -24,8 +24,7 @@ use Rattle.si_steps.specs.Loads.{Owed, nothing, PerformsLoad, gained_line, load_
 use Rattle.si_steps.specs.Steps.{Performs, IsNoCommand, RightStep, right, long, memory_at_once, memory_behind, performed, loaded}
 use Rattle.si_steps.specs.FileWords.{names_file, nameless, named, right_word, no_memory}
 use Rattle.si_steps.specs.Runs.{a_line, a_word, ended}
-use Rattle.si_io.specs.Shown.{SinkShown, LibraryShown, KeepsFiles}
-use Rattle.si_io.specs.Counts.{raised}
+use Rattle.si_io.specs.Shown.{SinkShown, LibraryShown}
 use Rattle.si_io.specs.Sends.{SendsAll, SendsPart}
 use Rattle.si_session.specs.Commands.{IsPerformed}
 use Rattle.si_term.specs.Meaning.{clause_of}
@@ -47,18 +46,11 @@ use Rattle.si_session.specs.declared.reply.ReplyLine as reply
 use Rattle.si_session.specs.Replies.{reply_line, misused_text, counts_text, counts_reply}
 use Rattle.si_session.specs.Rejections.{IsReportableClause, NamesOccurrence, ReportsFault, ReportsWhy}
 use Rattle.si_session.specs.ShownTrees.{nodes_of, Asks, ShowsTrees}
-use Rattle.si_session.specs.Session.{Around, around, CountsSinkFault, Steps, HoldsTrees, GoesByTrees, ChangesKept, Writes, HasPerformed, ActsOn, rightly, at_once, behind, HasLoaded, LoadsInto, rightly_loaded, ran_out, view_of, holding}
+use Rattle.si_session.specs.Session.{Around, around, Steps, HoldsTrees, GoesByTrees, ChangesKept, Writes, HasPerformed, PerformsOn, ActsOn, rightly, at_once, behind, HasLoaded, LoadsInto, rightly_loaded, ran_out, view_of, holding}
 use Rattle.si_session.specs.declared.stepped.Stepped.{Stepped}
 use Rattle.si_io.proofs.Fetching.{same_files}
 use Rattle.si_session.proofs.Owing.{counts_nothing}
 use Rattle.si_session.specs.declared.stepped.Stepped.TheVariants.{Answered, Refused, Silent, SinkFailed}
-
--- ---- the sink's count of faults
-pub faults_stand : (o : Stepped) (a b : SinkShown) → (o ≡ SinkFailed → ⊥) → b.counts.faults ≡ a.counts.faults → CountsSinkFault o a b
-faults_stand o a b other e = record { later = omega (arith, e); kept = λ _. e; failed = λ f. absurd (other f) }
-
-pub faults_rise : (a b : SinkShown) → b.counts.faults ≡ raised a.counts.faults → CountsSinkFault SinkFailed a b
-faults_rise a b e = record { later = omega (arith, e); kept = λ other. absurd (other refl); failed = λ _. e }
 
 -- ---- the last line of a reply
 refusal-last : (lines : List Bytes) (line : Bytes) → is_refusal (lines ++ line ∷ []) ≡ begins_with 33 line
@@ -78,18 +70,25 @@ answered lines n a b h = (h, some_line lines (end_line n), refusal-last lines (e
 pub holds_same : (old new : Kept) (state : State) → new.clauses ≡ old.clauses → holding state new ≡ holding state old
 holds_same old new state e = ap (λ cs. record state { clauses = cs }) e
 
+-- memory ran out, and nothing changed
+pub finds_no_memory : (command : Command) (index : Kept) (o : Stepped) (a b : SinkShown) → Writes o (memory_line ∷ []) a b → ActsOn command index index o a b
+finds_no_memory command index o a b w = record { performed = λ setting state. at_once refl w; rules = refl }
+
 -- ---- an answer
 module _ (relation : Relation) (p : Pattern) (index : Kept) (hits : List Hit) (answer : IsAnswer relation p (state_entries index.clauses) hits) where
   pub answers : (a b : SinkShown) → SendsAll a (ended (answer_reply hits)) b → ActsOn (query relation p) index index Answered a b
-  answers a b h setting state = rightly (answer_reply hits) (hits, answer, refl, refl) (answered (hit_texts hits) (length hits) a b h)
+  answers a b h = record {
+    performed = λ setting state. rightly (answer_reply hits) (hits, answer, refl, refl) (answered (hit_texts hits) (length hits) a b h);
+    rules = refl;
+  }
 
   pub fails : (a b : SinkShown) → SendsPart a (ended (answer_reply hits)) b → ActsOn (query relation p) index index SinkFailed a b
-  fails a b h setting state = rightly (answer_reply hits) (hits, answer, refl, refl) h
+  fails a b h = record { performed = λ setting state. rightly (answer_reply hits) (hits, answer, refl, refl) h; rules = refl }
 
 -- ---- a clause
 -- it is kept
 pub added : (old new : Kept) (clause : Clause) (o : Stepped) (n : ℕ) (a b : SinkShown) → Accepts old.rules old.clauses clause new.clauses → n ≡ length (entries clause)
-    → Writes o (ok_line 1 n ∷ []) a b → ActsOn (add clause) old new o a b
+    → Writes o (ok_line 1 n ∷ []) a b → PerformsOn (add clause) old new o a b
 added old new clause o n a b k e w setting state = rightly (ok_line 1 n ∷ []) (inr (k, ap (λ m. ok_line 1 m ∷ []) e, refl)) w
 
 -- the symbol at a clash
@@ -100,7 +99,7 @@ at_seam before after own s n e h =
 -- it isn't kept
 fault_acts : (old new : Kept) (r : Rejected) (reported : reply.ReplyLine) (o : Stepped) (a b : SinkShown) (why : AddFault)
     → Rejects old.rules old.clauses (clause_of r.clause) why → ReportsFault r reported why → new.clauses ≡ old.clauses → Writes o (reply_line reported ∷ []) a b
-    → ActsOn (add (clause_of r.clause)) old new o a b
+    → PerformsOn (add (clause_of r.clause)) old new o a b
 fault_acts old new r reported o a b add_fault.Taken h t e w setting state =
     rightly (reply_line reported ∷ []) (inl (taken, h, ap (λ l. l ∷ []) t, holds_same old new state e)) w
 fault_acts old new r reported o a b (add_fault.Clash c) h t e w setting state =
@@ -115,7 +114,7 @@ fault_acts old new r reported o a b add_fault.Memory h t e w setting state = at_
 
 pub refused : (old new : Kept) (r : Rejected) (reported : reply.ReplyLine) (o : Stepped) (a b : SinkShown)
     → Rejects old.rules old.clauses (clause_of r.clause) r.why → ReportsWhy r reported → new.clauses ≡ old.clauses → Writes o (reply_line reported ∷ []) a b
-    → ActsOn (add (clause_of r.clause)) old new o a b
+    → PerformsOn (add (clause_of r.clause)) old new o a b
 refused old new r reported o a b h t e w = fault_acts old new r reported o a b r.why h t e w
 
 -- the clash is named at an occurrence
@@ -131,19 +130,21 @@ is_reportable rules clauses r sound h = (sound, by r.why h) where
 
 -- ---- a clause that goes
 pub removed : (old new : Kept) (name : Name) (o : Stepped) (n : ℕ) (a b : SinkShown) (c : Clause) → Removes old.clauses name c new.clauses → n ≡ length (entries c)
-    → Writes o (ok_line 1 n ∷ []) a b → ActsOn (remove name) old new o a b
+    → Writes o (ok_line 1 n ∷ []) a b → PerformsOn (remove name) old new o a b
 removed old new name o n a b c h e w setting state = rightly (ok_line 1 n ∷ []) (inr (c, h, ap (λ m. ok_line 1 m ∷ []) e, refl)) w
 
 pub unknown : (old new : Kept) (name : Name) (o : Stepped) (a b : SinkShown) → (IsTaken old.clauses name → ⊥) → new.clauses ≡ old.clauses
-    → Writes o (unknown_line name ∷ []) a b → ActsOn (remove name) old new o a b
+    → Writes o (unknown_line name ∷ []) a b → PerformsOn (remove name) old new o a b
 unknown old new name o a b h e w setting state = rightly (unknown_line name ∷ []) (inl (h, refl, holds_same old new state e)) w
 
 -- ---- counts
 pub counts : (index : Kept) (reported : Stats) (o : Stepped) (a b : SinkShown) → reported.clauses ≡ length index.clauses → reported.entries ≡ length (state_entries index.clauses)
     → CountsSymbols index.clauses reported.symbols → Writes o (stats_line reported.clauses reported.entries reported.symbols ∷ []) a b → ActsOn stats index index o a b
-counts index reported o a b clauses entries symbols w setting state =
-    rightly (stats_line reported.clauses reported.entries reported.symbols ∷ [])
-    (reported.symbols, symbols, ap (λ n. stats_line n reported.entries reported.symbols ∷ []) clauses ∙ ap (λ n. stats_line (length index.clauses) n reported.symbols ∷ []) entries, refl) w
+counts index reported o a b clauses entries symbols w = record {
+  performed = λ setting state. rightly (stats_line reported.clauses reported.entries reported.symbols ∷ [])
+      (reported.symbols, symbols, ap (λ n. stats_line n reported.entries reported.symbols ∷ []) clauses ∙ ap (λ n. stats_line (length index.clauses) n reported.symbols ∷ []) entries, refl) w;
+  rules = refl;
+}
 
 -- ---- the step
 -- no command has an empty reply
@@ -163,7 +164,7 @@ some_reply setting (sample start count) state new reply (drawn, are, inl h) e = 
 some_reply setting (sample start count) state new reply (drawn, are, inr h) e = some_line [] _ (sym h.3 ∙ e)
 
 pub not_silent : (limits : Limits) (command : Command) (old new : Kept) (o : Stepped) (a b : SinkShown) → ActsOn command old new o a b → o ≡ Silent → ⊥
-not_silent limits command old new o a b acts = by (acts (view_of limits old).setting (view_of limits old).state) where
+not_silent limits command old new o a b acts = by (acts.performed (view_of limits old).setting (view_of limits old).state) where
   by : HasPerformed (Performs (view_of limits old).setting command (view_of limits old).state) (view_of limits old).state (view_of limits new).state o a b → o ≡ Silent → ⊥
   by (rightly reply p w) e =
       let v : Writes Silent reply a b = subst (λ x. Writes x reply a b) e w in
@@ -191,7 +192,7 @@ performs_refused setting (sample start count) state new reply (drawn, are, inr h
 
 pub keeps_state : (limits : Limits) (command : Command) (old new : Kept) (o : Stepped) (a b : SinkShown) → ActsOn command old new o a b → o ≡ Refused
     → (view_of limits new).state ≡ (view_of limits old).state
-keeps_state limits command old new o a b acts = by (acts (view_of limits old).setting (view_of limits old).state) where
+keeps_state limits command old new o a b acts = by (acts.performed (view_of limits old).setting (view_of limits old).state) where
   by : HasPerformed (Performs (view_of limits old).setting command (view_of limits old).state) (view_of limits old).state (view_of limits new).state o a b → o ≡ Refused
       → (view_of limits new).state ≡ (view_of limits old).state
   by (rightly reply p w) e =
@@ -220,10 +221,10 @@ by_trees limits old new line command short means reply shows stays = record {
   by (inr same) = inr same
 
 pub stepped : (limits : Limits) (library : LibraryShown) (old new : Kept) (line : Bytes) (command : Command) (o : Stepped) (a b : SinkShown)
-    → HoldsTrees (view_of limits old) → new.rules ≡ old.rules → IsShort limits line → IsPerformed command line → ActsOn command old new o a b
+    → HoldsTrees (view_of limits old) → IsShort limits line → IsPerformed command line → ActsOn command old new o a b
     → ((reply : Reply) → ShowsTrees old.numbers old.trees command reply) → ChangesKept command ⊎ (new.trees ≡ old.trees)
     → Steps (view_of limits old) (view_of limits new) (a_line line) o (around a library) (around b library)
-stepped limits library old new line command o a b held rules short performs acts shows stays = by (acts (view_of limits old).setting (view_of limits old).state) where
+stepped limits library old new line command o a b held short performs acts shows stays = by (acts.performed (view_of limits old).setting (view_of limits old).state) where
   loud : IsSilent limits line → ⊥
   loud h = performs.0 h.1
 
@@ -231,7 +232,7 @@ stepped limits library old new line command o a b held rules short performs acts
   own reply = by_trees limits old new line command short performs.1 reply (shows reply) stays
 
   same_setting : (view_of limits new).setting ≡ (view_of limits old).setting
-  same_setting = setting_stays limits old new rules
+  same_setting = setting_stays limits old new acts.rules
 
   by : HasPerformed (Performs (view_of limits old).setting command (view_of limits old).state) (view_of limits old).state (view_of limits new).state o a b
       → Steps (view_of limits old) (view_of limits new) (a_line line) o (around a library) (around b library)
@@ -376,7 +377,7 @@ load_stays setting (Some files) file state new reply owed h t = by h.1 h.3 h.5 w
 module _ (limits : Limits) (file : Bytes) (old new : Kept) (o : Stepped) (a b : Around) (loads : LoadsInto limits file old new o a b) where
   -- the load of a session with this index
   own : HasLoaded (view_of limits old).setting file (view_of limits old).state (view_of limits new).state o a b
-  own = loads (view_of limits old).state
+  own = loads.loaded (view_of limits old).state
 
   pub load_not_silent : o ≡ Silent → ⊥
   load_not_silent = by own where
@@ -394,9 +395,9 @@ module _ (limits : Limits) (file : Bytes) (old new : Kept) (o : Stepped) (a b : 
         load_stays (view_of limits old).setting a.library.files file (view_of limits old).state (view_of limits new).state reply owed p v.1
     by (ran_out owed owes same w h) e = same
 
-  pub load_stepped : (line : Bytes) → KeepsFiles a.library b.library → HoldsTrees (view_of limits old) → new.rules ≡ old.rules → IsShort limits line → IsPerformed (load file) line
+  pub load_stepped : (line : Bytes) → HoldsTrees (view_of limits old) → IsShort limits line → IsPerformed (load file) line
       → Steps (view_of limits old) (view_of limits new) (a_line line) o a b
-  load_stepped line keeps held rules short performs = by own where
+  load_stepped line held short performs = by own where
     loud : IsSilent limits line → ⊥
     loud h = performs.0 h.1
 
@@ -409,31 +410,31 @@ module _ (limits : Limits) (file : Bytes) (old new : Kept) (o : Stepped) (a b : 
       reply = reply;
       owed = owed;
       step = right (loaded short file performs.1 p);
-      setting = setting_stays limits old new rules;
+      setting = setting_stays limits old new loads.rules;
       held = held;
       own_trees = own_trees reply;
       written = w;
       counted = h;
-      library = keeps;
+      library = loads.library;
     }
     by (ran_out owed owes same w h) =
-        record { reply = memory_line ∷ []; owed = owed; step = memory_at_once loud short refl (inr (file, performs.1, owes)) same; setting = setting_stays limits old new rules; held = held; own_trees = own_trees (memory_line ∷ []); written = w; counted = h; library = keeps }
+        record { reply = memory_line ∷ []; owed = owed; step = memory_at_once loud short refl (inr (file, performs.1, owes)) same; setting = setting_stays limits old new loads.rules; held = held; own_trees = own_trees (memory_line ∷ []); written = w; counted = h; library = loads.library }
 
   -- a word that names the file
-  pub word_stepped : KeepsFiles a.library b.library → HoldsTrees (view_of limits old) → new.rules ≡ old.rules → IsTrue (names_file file) → Steps (view_of limits old) (view_of limits new) (a_word file) o a b
-  word_stepped keeps held rules names = by own where
+  pub word_stepped : HoldsTrees (view_of limits old) → IsTrue (names_file file) → Steps (view_of limits old) (view_of limits new) (a_word file) o a b
+  word_stepped held names = by own where
     by : HasLoaded (view_of limits old).setting file (view_of limits old).state (view_of limits new).state o a b
         → Steps (view_of limits old) (view_of limits new) (a_word file) o a b
     by (rightly_loaded reply owed p w h) = record {
       reply = reply;
       owed = owed;
       step = right_word (named names p);
-      setting = setting_stays limits old new rules;
+      setting = setting_stays limits old new loads.rules;
       held = held;
       own_trees = tt;
       written = w;
       counted = h;
-      library = keeps;
+      library = loads.library;
     }
     by (ran_out owed owes same w h) =
-        record { reply = memory_line ∷ []; owed = owed; step = no_memory names refl owes same; setting = setting_stays limits old new rules; held = held; own_trees = tt; written = w; counted = h; library = keeps }
+        record { reply = memory_line ∷ []; owed = owed; step = no_memory names refl owes same; setting = setting_stays limits old new loads.rules; held = held; own_trees = tt; written = w; counted = h; library = loads.library }

@@ -32,7 +32,7 @@ use Rattle.si_session.specs.declared.reply.ReplyLine as program
 use Rattle.si_session.specs.declared.stepped.Stepped.{Stepped}
 use Rattle.si_session.specs.Replies.{reply_line, misused_text}
 use Rattle.si_session.specs.Rejections.{ReportsFault, IsReportable, ReportsFaultOfLoad}
-use Rattle.si_session.specs.Session.{around, behind_owed, HasCountedOwed, Writes, HasLoaded, LoadsInto, rightly_loaded, ran_out, view_of, holding}
+use Rattle.si_session.specs.Session.{around, behind_owed, HasCountedOwed, Writes, HasLoaded, LoadsOn, rightly_loaded, ran_out, view_of, holding}
 use Rattle.si_session.proofs.Acting.{holds_same, at_seam, is_reportable}
 
 -- ---- a clause that is refused
@@ -158,7 +158,7 @@ module _ (limits : Limits) (file : Bytes) (old new : Kept) (o : Stepped) (a b : 
 
   pub load_refused : (e : HarvestFault) (line : program.ReplyLine) → ReadsFiles {T = Loaded} x.files (load_bounds limits) old.rules file (Err e) old.clauses new.clauses x.counts.calls y.counts.calls
       → ReportsFaultOfLoad e line → HasFaultCause x.may_fail (faults_in x.counts) (faults_in y.counts) e → new.clauses ≡ old.clauses → Writes o (reply_line line ∷ []) a b
-      → LoadsInto limits file old new o (around a x) (around b y)
+      → LoadsOn limits file old new o (around a x) (around b y)
   load_refused e line reads t h same w state = by reads.fault where
     by : NamesWhy old.rules e (HasFault x.files (load_bounds limits) old.rules old.clauses file reads.made)
         → HasLoaded (view_of limits old).setting file (holding state old) (holding state new) o (around a x) (around b y)
@@ -191,7 +191,7 @@ module _ (limits : Limits) (file : Bytes) (old new : Kept) (o : Stepped) (a b : 
 
   pub load_gained : (loaded : Loaded) (clauses entries : ℕ) → clauses ≡ loaded.clauses → entries ≡ loaded.entries → Gained old.rules old.clauses loaded new.clauses
       → ReadsFiles {T = Loaded} x.files (load_bounds limits) old.rules file (Ok loaded) old.clauses new.clauses x.counts.calls y.counts.calls
-      → faults_in y.counts ≡ faults_in x.counts → Writes o (ok_line clauses entries ∷ []) a b → LoadsInto limits file old new o (around a x) (around b y)
+      → faults_in y.counts ≡ faults_in x.counts → Writes o (ok_line clauses entries ∷ []) a b → LoadsOn limits file old new o (around a x) (around b y)
   load_gained loaded clauses entries many more g reads same w state =
       rightly_loaded (ok_line loaded.clauses loaded.entries ∷ []) (owed_for reads.made None) (gained_where x.files loaded reads.made state g reads.may reads.right)
       (subst (λ r. Writes o r a b) (ap₂ (λ m n. ok_line m n ∷ []) many more) w) (gained_counted reads.made x.may_fail x.counts y.counts reads.counted same)

@@ -29,7 +29,7 @@ use Rattle.si_session.specs.declared.reply.ReplyLine as program
 use Rattle.si_session.specs.declared.stepped.Stepped.{Stepped}
 use Rattle.si_session.specs.Replies.{reply_line}
 use Rattle.si_session.specs.Rejections.{ReportsFaultOfLoad}
-use Rattle.si_session.specs.Session.{Writes, ActsOn, rightly, at_once, holding, ruled_by}
+use Rattle.si_session.specs.Session.{Writes, PerformsOn, rightly, at_once, holding, ruled_by}
 use Rattle.si_session.specs.Sums.{GainsSample, RefusesSample, CountsEntryAnswers, SumsTo, ReportsSum}
 use Rattle.si_session.proofs.Acting.{holds_same}
 use Rattle.si_session.proofs.Loading.{fault_reported}
@@ -190,7 +190,7 @@ sample_gained rules start count state new drawn text gained h are g = (g.0, (tex
 -- ---- the command
 module _ (start count : ℕ) (old new : Kept) (o : Stepped) (a b : SinkShown) where
   pub sample_reported : (between : List Clause) (gained : Loaded) → GainsSample old.rules start count old.clauses gained between → ReportsSum gained between new.clauses o a b
-      → ActsOn (sample start count) old new o a b
+      → PerformsOn (sample start count) old new o a b
   sample_reported between gained g (inl t) setting state =
       let all = g.0 in
       let last = last_of old.clauses all.gained between gained.clauses all.whole all.clauses in
@@ -222,7 +222,7 @@ module _ (start count : ℕ) (old new : Kept) (o : Stepped) (a b : SinkShown) wh
   first_refused setting state (malformed file line) h same = absurd h.2
 
   pub sample_refused : (e : HarvestFault) (line : program.ReplyLine) → NamesWhy old.rules e (RefusesSample old.rules start count old.clauses) → ReportsFaultOfLoad e line
-      → new.clauses ≡ old.clauses → Writes o (reply_line line ∷ []) a b → ActsOn (sample start count) old new o a b
+      → new.clauses ≡ old.clauses → Writes o (reply_line line ∷ []) a b → PerformsOn (sample start count) old new o a b
   sample_refused e line (inl m) t same w setting state =
       let out : reply_line line ≡ memory_line = subst (λ f. ReportsFaultOfLoad f line) m t in
       at_once (holds_same old new state same) (subst (λ l. Writes o (l ∷ []) a b) out w)

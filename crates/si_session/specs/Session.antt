@@ -19,7 +19,7 @@ use Rattle.si_steps.specs.Runs.{Request, a_word, a_line, Acts, ended}
 use Rattle.si_io.specs.Shown.{SinkShown, LibraryShown, KeepsFiles}
 use Rattle.si_io.specs.Sends.{SendsAll, SendsPart}
 use Rattle.si_io.specs.declared.counts.LibraryCounts.{LibraryCounts}
-use Rattle.si_io.specs.Counts.{raised, raised_by}
+use Rattle.si_io.specs.Counts.{raised_by}
 use Rattle.si_index.specs.Kept.{Kept, NumbersExactly, paired}
 use Rattle.si_session.specs.ShownTrees.{Asks, IsShownBy}
 use Rattle.si_session.specs.declared.stepped.Stepped.{Stepped}
@@ -133,12 +133,6 @@ pub record Around : Type 0 where
 abbrev pub around : SinkShown → LibraryShown → Around
 around sink library = record { sink = sink; library = library }
 
--- The sink's count of faults is one more where the step failed at the sink, and else as before.
-pub record CountsSinkFault (outcome : Stepped) (before after : SinkShown) : Type 0 where
-  pub later : before.counts.faults ≤ after.counts.faults
-  pub kept : (outcome ≡ SinkFailed → ⊥) → after.counts.faults ≡ before.counts.faults
-  pub failed : outcome ≡ SinkFailed → after.counts.faults ≡ raised before.counts.faults
-
 -- The call went one step over a library: the state is the one after it, its reply was written, or
 -- at a sink's fault a prefix of it, and what the reply owes to the library was counted. The setting
 -- stays, and so do the library's files.
@@ -176,13 +170,18 @@ holding state index = record state { clauses = index.clauses }
 abbrev pub ruled_by : Setting → Kept → Setting
 ruled_by setting index = record setting { rules = index.rules }
 
--- An index did what a command asks of it: so the command was performed, whatever else there is of a
--- state and a setting.
-abbrev pub ActsOn : Command → Kept → Kept → Stepped → SinkShown → SinkShown → Type 0
-ActsOn command old new outcome before after =
+-- The command was performed, whatever else there is of a state and a setting.
+abbrev pub PerformsOn : Command → Kept → Kept → Stepped → SinkShown → SinkShown → Type 0
+PerformsOn command old new outcome before after =
     (setting : Setting) (state : State)
     → HasPerformed (Performs (ruled_by setting old) command (holding state old))
     (holding state old) (holding state new) outcome before after
+
+-- An index did what a command asks of it, by the rules that it keeps.
+pub record ActsOn (command : Command) (old new : Kept) (outcome : Stepped)
+    (before after : SinkShown) : Type 0 where
+  pub performed : PerformsOn command old new outcome before after
+  pub rules : new.rules ≡ old.rules
 
 -- What a load did: its reply was right, what it owes was counted, and the state is the one after
 -- it; or memory ran out, its fetches were counted, and the state stayed.
@@ -199,9 +198,16 @@ pub data HasLoaded (setting : Setting) (file : Bytes) (old new : State) (outcome
       → HasLoaded setting file old new outcome before after
 
 -- the same of an index, under these limits
-abbrev pub LoadsInto : Limits → (file : Bytes) → Kept → Kept → Stepped → Around → Around
+abbrev pub LoadsOn : Limits → (file : Bytes) → Kept → Kept → Stepped → Around → Around
     → Type 0
-LoadsInto limits file old new outcome before after =
+LoadsOn limits file old new outcome before after =
     (state : State)
     → HasLoaded (view_of limits old).setting file (holding state old) (holding state new) outcome
     before after
+
+-- An index did a load, by the rules that it keeps. The library's files stay.
+pub record LoadsInto (limits : Limits) (file : Bytes) (old new : Kept) (outcome : Stepped)
+    (before after : Around) : Type 0 where
+  pub loaded : LoadsOn limits file old new outcome before after
+  pub rules : new.rules ≡ old.rules
+  pub library : KeepsFiles before.library after.library

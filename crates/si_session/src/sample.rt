@@ -8,7 +8,7 @@ ghost use Rattle.si_steps.specs.Commands.{sample};
 ghost use Rattle.si_term.specs.Meaning.{clause_of, entry_of, pattern_of};
 ghost use Rattle.si_flat.specs.Flattened.{IsSoundEntry};
 ghost use Rattle.si_harvest.specs.Faults.{NamesWhy};
-ghost use Rattle.si_session.specs.Session.{ActsOn, CountsSinkFault};
+ghost use Rattle.si_session.specs.Session.{ActsOn};
 ghost use Rattle.si_session.specs.Sums.{GainsSample, RefusesSample, CountsUnifiable, CountsEntryAnswers, SumsLast, ReportsSum};
 
 use crate::refusals::load_refusal;
@@ -31,10 +31,8 @@ pub fn sample<K: Sink>(
 ) -> Stepped
     requires drawable { AllowsSample start count }
     requires limit { index.old.rules.entries ≤ MOST_OCCURRENCES }
-    ensures acts { ActsOn (sample start count) index.old index.new result
-        (K.shown sink.old) (K.shown sink.new) }
-    ensures rules { index.new.rules ≡ index.old.rules }
-    ensures faults { CountsSinkFault result (K.shown sink.old) (K.shown sink.new) }
+    ensures { ActsOn (sample start count) index.old index.new result (K.shown sink.old)
+        (K.shown sink.new) }
 {
     match take_sample(alloc, index, start, count) {
         Ok(gained) => report_sum(alloc, index, gained, sink),
@@ -69,7 +67,6 @@ fn report_sum<K: Sink>(alloc: Global, index: &mut Index, gained: Loaded, sink: &
     ensures reports { ReportsSum gained index.old.clauses index.new.clauses result
         (K.shown sink.old) (K.shown sink.new) }
     ensures rules { index.new.rules ≡ index.old.rules }
-    ensures faults { CountsSinkFault result (K.shown sink.old) (K.shown sink.new) }
 {
     match sum_last(alloc, index, gained.clauses) {
         Ok(sum) => report(

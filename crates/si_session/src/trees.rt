@@ -4,7 +4,7 @@ ghost use Rattle.si_defs.specs.Clauses.{IsSoundPattern};
 ghost use Rattle.si_steps.specs.Runs.{ended};
 ghost use Rattle.si_io.specs.Sends.{Sends};
 ghost use Rattle.si_term.specs.Meaning.{pattern_of};
-ghost use Rattle.si_session.specs.Session.{Writes, CountsSinkFault};
+ghost use Rattle.si_session.specs.Session.{Writes};
 ghost use Rattle.si_session.specs.Explained.{ReportsExplained};
 ghost use Rattle.si_session.specs.Replies.{counts_reply};
 ghost use Rattle.si_session.specs.Separators.{separator_text};
@@ -23,8 +23,7 @@ use si_tree::Counts;
 
 /// Writes the numbers of nodes of both trees, a line each.
 pub fn report_trees<K: Sink>(sink: &mut K, counts: TreeCounts) -> Stepped
-    ensures written { Writes result (counts_reply counts) (K.shown sink.old) (K.shown sink.new) }
-    ensures faults { CountsSinkFault result (K.shown sink.old) (K.shown sink.new) }
+    ensures { Writes result (counts_reply counts) (K.shown sink.old) (K.shown sink.new) }
 {
     match put_trees(sink, counts) {
         Ok(()) => Stepped::Answered,
@@ -74,9 +73,8 @@ pub fn explain<K: Sink>(
     sink: &mut K,
 ) -> Stepped
     requires { IsSoundPattern (pattern_of pattern.now) }
-    ensures reports { ReportsExplained index.now relation (pattern_of pattern.now) result
+    ensures { ReportsExplained index.now relation (pattern_of pattern.now) result
         (K.shown sink.old) (K.shown sink.new) }
-    ensures faults { CountsSinkFault result (K.shown sink.old) (K.shown sink.new) }
 {
     match index.explain(memory, relation, pattern) {
         Ok(explained) => report(sink, ReplyLine::Explained(explained)),

@@ -3,4 +3,4 @@ use Rattle.si_serve.proofs.Progress.{acts_or_stops}
 use Rattle.si_serve.proofs.serve.load.Goals as goal
 
 pub returns : goal.returns
-returns g c = acts_or_stops c.args.strict _ _ _ c.load-outcome.result _ _ c.load-outcome.ensures.step c.load-outcome.ensures.faults c.judge.result c.judge.ensures
+returns g c = acts_or_stops c.args.strict _ _ _ c.load-outcome.result _ _ c.load-outcome.ensures.step c.judge.result c.judge.ensures

@@ -14,16 +14,16 @@ returns-clause-step g c =
     let after = around (g.K.Sink.shown c.load.new.sink) (g.L.Library.shown c.load.new.library) in
     let limits = c.self.inside.limits in
     subst (λ s. Steps s (view_of limits c.load.new.index) (a_word c.args.word.now) c.load.result before after) c.self.view_is
-    (word_stepped limits c.args.word.now c.self.inside.index c.load.new.index c.load.result before after c.load.ensures.loads c.load.ensures.library
-    (holds_trees limits c.self.inside.index c.trees.ensures.keyed c.trees.ensures.exactly c.trees.ensures.hold) c.load.ensures.rules
+    (word_stepped limits c.args.word.now c.self.inside.index c.load.new.index c.load.result before after c.load.ensures
+    (holds_trees limits c.self.inside.index c.trees.ensures.keyed c.trees.ensures.exactly c.trees.ensures.hold)
     (sym c.names_file.ensures ∙ c.if-not-names_file.false))
 
 pub returns-clause-loud : goal.returns-clause-loud
-returns-clause-loud g c = λ e. load_not_silent c.self.inside.limits c.args.word.now c.self.inside.index c.load.new.index c.load.result _ _ c.load.ensures.loads e
+returns-clause-loud g c = λ e. load_not_silent c.self.inside.limits c.args.word.now c.self.inside.index c.load.new.index c.load.result _ _ c.load.ensures e
 
 pub returns-clause-refused : goal.returns-clause-refused
 returns-clause-refused g c =
-    λ e. load_keeps c.self.inside.limits c.args.word.now c.self.inside.index c.load.new.index c.load.result _ _ c.load.ensures.loads e
+    λ e. load_keeps c.self.inside.limits c.args.word.now c.self.inside.index c.load.new.index c.load.result _ _ c.load.ensures e
     ∙ ap (λ s. s.state) c.self.view_is
 
 pub returns-then-not-names_file-clause-step : goal.returns-then-not-names_file-clause-step
@@ -35,4 +35,4 @@ returns-then-not-names_file-clause-step g c =
     subst (λ s. Steps s s (a_word c.args.word.now) c.report.result (around a library) (around b library)) c.self.view_is
     (nameless_stepped limits library c.self.inside.index c.args.word.now c.report.result a b
     (holds_trees limits c.self.inside.index c.trees.ensures.keyed c.trees.ensures.exactly c.trees.ensures.hold)
-    (sym c.names_file.ensures ∙ c.if-not-names_file.true) c.report.ensures.written)
+    (sym c.names_file.ensures ∙ c.if-not-names_file.true) c.report.ensures)

@@ -1,6 +1,6 @@
 -- What a command did, from what its parts wrote; and the step that its line made.
 use Rattle.std.proofs.Common.{◌≡◌, ℕ, List, [], ◌∷◌, ◌++◌, length, map, refl, ap, ap₂, sym, ◌∙◌, subst, inl, inr, arith, length-append}
-use Rattle.std.specs.Prelude.{◌⊎◌, Bool, Option, Some, None, slice_get, codes, IsTrue, IsFalse}
+use Rattle.std.specs.Prelude.{◌⊎◌, Option, Some, None, slice_get, codes, IsTrue, IsFalse}
 use Rattle.si_defs.specs.Bytes.{Bytes}
 use Rattle.si_defs.specs.Tokens.{lower, AreBlanks, Begins, begins_with}
 use Rattle.si_lex.proofs.TokenLaws.{blanks_none}

@@ -321,8 +321,7 @@ fn refuses(reply: ReplyLine<'_>) -> bool
 
 /// Writes a line of a reply, and says what became of the command line.
 pub fn report<K: Sink>(sink: &mut K, reply: ReplyLine<'_>) -> Stepped
-    ensures { Writes result (reply_line reply.entry ∷ []) (K.shown sink.old)
-        (K.shown sink.new) }
+    ensures { Writes result (reply_line reply.entry ∷ []) (K.shown sink.old) (K.shown sink.new) }
 {
     match put_at_once(sink, reply) {
         Ok(()) if refuses(reply) => Stepped::Refused,

@@ -79,8 +79,8 @@ impl Session {
         sink: &mut K,
     ) -> Stepped
         // The session went one step: its state is the next one, and the reply was written, or the
-        // front of it that the sink took before it failed. So it answers a fault of the sink exactly
-        // where the sink counted one.
+        // front of it that the sink took before it failed. So it answers a fault of the sink
+        // exactly where the sink counted one.
         ensures step { Steps self.old self.new (a_line line.now) result
             (around (K.shown sink.old) (L.shown library.old))
             (around (K.shown sink.new) (L.shown library.new)) }
@@ -138,8 +138,8 @@ impl Session {
         sink: &mut K,
     ) -> Stepped
         // The session went one step: its state is the next one, and the reply was written, or the
-        // front of it that the sink took before it failed. So it answers a fault of the sink exactly
-        // where the sink counted one.
+        // front of it that the sink took before it failed. So it answers a fault of the sink
+        // exactly where the sink counted one.
         ensures step { Steps self.old self.new (a_word word.now) result
             (around (K.shown sink.old) (L.shown library.old))
             (around (K.shown sink.new) (L.shown library.new)) }

@@ -1,4 +1,4 @@
-use Rattle.std.proofs.Common.{◌≡◌, ◌≤◌, [], ◌∷◌, inl, inr, length, map, refl, sym, ap, ◌∙◌, subst, arith}
+use Rattle.std.proofs.Common.{◌≤◌, [], ◌∷◌, inl, inr, length, map, refl, ap, ◌∙◌, subst, arith}
 use Rattle.si_steps.specs.Commands.{add, remove, query, subsumers, subsumed, stats, sample}
 use Rattle.si_term.specs.Meaning.{name_of, literal_of, clause_of, pattern_of}
 use Rattle.si_steps.specs.Runs.{a_line}

@@ -96,7 +96,7 @@ pub struct Flat {
     cells: SmallVec<Cell, 2>,
 }
 
-// Written out for the checker of borrows, as that of a text is.
+// It does what a derived one would, and is quicker to check (docs/PROVING.md, "Minutes").
 impl Drop for Flat {
     fn drop(self) {
         let Flat { cells: _cells } = self;

@@ -52,7 +52,7 @@ pub(crate) struct Met<'a> {
     extra: IndexSet<SymbolKey<'a>>,
 }
 
-// Written out for the checker of borrows, as that of a text is.
+// It does what a derived one would, and is quicker to check (docs/PROVING.md, "Minutes").
 impl Drop for Met<'_> {
     fn drop(self) {
         let Met {

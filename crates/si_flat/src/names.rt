@@ -20,7 +20,7 @@ pub(crate) struct NameSet<'a> {
     hashed: IndexSet<&'a [u8]>,
 }
 
-// Written out for the checker of borrows, as that of a text is.
+// It does what a derived one would, and is quicker to check (docs/PROVING.md, "Minutes").
 impl Drop for NameSet<'_> {
     fn drop(self) {
         let NameSet {

@@ -31,7 +31,7 @@ pub struct Trees {
     notes: Notes,
 }
 
-// Written out for the checker of borrows, as that of a text is.
+// It does what a derived one would, and is quicker to check (docs/PROVING.md, "Minutes").
 impl Drop for Trees {
     fn drop(self) {
         let Trees {

@@ -24,7 +24,7 @@ pub(crate) struct Folding {
     sizes: Vec<u32>,
 }
 
-// Written out for the checker of borrows, as that of a text is.
+// It does what a derived one would, and is quicker to check (docs/PROVING.md, "Minutes").
 impl Drop for Folding {
     fn drop(self) {
         let Folding {

@@ -34,7 +34,7 @@ pub struct Solution {
     bindings: SmallVec<Binding, 2>,
 }
 
-// Written out for the checker of borrows, as that of a text is.
+// It does what a derived one would, and is quicker to check (docs/PROVING.md, "Minutes").
 impl Drop for Solution {
     fn drop(self) {
         let Solution {

@@ -15,7 +15,7 @@ pub struct NameSet {
     integers: IndexSet<Vec<u8>>,
 }
 
-// Written out for the checker of borrows, as that of a text is.
+// It does what a derived one would, and is quicker to check (docs/PROVING.md, "Minutes").
 impl Drop for NameSet {
     fn drop(self) {
         let NameSet {

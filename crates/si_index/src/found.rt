@@ -41,7 +41,7 @@ pub struct Shown {
     pub extra: Syms,
 }
 
-// Written out for the checker of borrows, as that of a text is.
+// It does what a derived one would, and is quicker to check (docs/PROVING.md, "Minutes").
 impl Drop for Shown {
     fn drop(self) {
         let Shown {
@@ -71,7 +71,7 @@ pub struct Found<'a> {
     passed: u64,
 }
 
-// Written out for the checker of borrows, as that of a text is.
+// It does what a derived one would, and is quicker to check (docs/PROVING.md, "Minutes").
 impl Drop for Found<'_> {
     fn drop(self) {
         let Found {

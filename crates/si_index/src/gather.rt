@@ -36,7 +36,7 @@ pub(crate) struct Matches<'a> {
     pub(crate) leaves: Vec<Leaf>,
 }
 
-// Written out for the checker of borrows, as that of a text is.
+// It does what a derived one would, and is quicker to check (docs/PROVING.md, "Minutes").
 impl Drop for Matches<'_> {
     fn drop(self) {
         let Matches {

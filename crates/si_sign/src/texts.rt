@@ -11,7 +11,7 @@ pub struct TextKeys {
     keys: IndexMap<Text, usize>,
 }
 
-// Written out for the checker of borrows, as that of a text is.
+// It does what a derived one would, and is quicker to check (docs/PROVING.md, "Minutes").
 impl Drop for TextKeys {
     fn drop(self) {
         let TextKeys { keys: _keys } = self;

@@ -20,7 +20,7 @@ pub struct Literal {
     pub atom: Term,
 }
 
-// Written out for the checker of borrows, as that of a text is.
+// It does what a derived one would, and is quicker to check (docs/PROVING.md, "Minutes").
 impl Drop for Literal {
     fn drop(self) {
         let Literal {
@@ -62,7 +62,7 @@ pub enum Pattern {
     Term(Term),
 }
 
-// Written out for the checker of borrows, as that of a text is.
+// It does what a derived one would, and is quicker to check (docs/PROVING.md, "Minutes").
 impl Drop for Pattern {
     fn drop(self) {
         match self {

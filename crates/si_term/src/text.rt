@@ -16,8 +16,8 @@ pub struct Text {
     bytes: Bytes,
 }
 
-// Written out, though it does what a derived one would: whoever owns a text calls it, and the checker
-// of borrows needn't go through all parts of a text at each place where one is dropped.
+// It does what a derived one would. But whoever owns a text calls it, and so the checker of borrows
+// needn't go through all parts of a text at each place where one is dropped.
 impl Drop for Text {
     fn drop(self) {
         let Text { bytes: _bytes } = self;

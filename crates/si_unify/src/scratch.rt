@@ -86,7 +86,7 @@ pub struct Scratch {
     pub(crate) buffers: Buffers,
 }
 
-// Written out for the checker of borrows, as that of a text is.
+// It does what a derived one would, and is quicker to check (docs/PROVING.md, "Minutes").
 impl Drop for Scratch {
     fn drop(self) {
         let Scratch { buffers: _buffers } = self;

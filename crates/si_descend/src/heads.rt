@@ -93,11 +93,13 @@ fn clash(relation: Relation, slots: &Slots, first: Cell, head: Head) -> bool
         Head::Sym { .. } => match first {
             Cell::Query(_) => slots.freeze_query,
             Cell::Entry(_) => slots.freeze_entry,
-            Cell::Ind(_) | Cell::App { .. } => false,
+            Cell::Ind(_) => false,
+            Cell::App { .. } => unreachable!(),
         },
         Head::Var(n) => match first {
             Cell::Entry(m) => m != n && slots.freeze_entry,
-            Cell::Query(_) | Cell::Ind(_) | Cell::App { .. } => false,
+            Cell::Query(_) | Cell::Ind(_) => false,
+            Cell::App { .. } => unreachable!(),
         },
     }
 }

@@ -1,6 +1,6 @@
 -- How a run goes on: by bytes of a line that was begun, by a line feed, and by more bytes after
 -- others.
-use Rattle.std.proofs.Common.{◌≡◌, ℕ, ◌+◌, List, [], ◌∷◌, ◌++◌, Option, map, take, refl, sym, ap, subst, ◌∙◌, append_assoc, append-nil, zero, suc, drop, length, length-take, arith}
+use Rattle.std.proofs.Common.{◌≡◌, ℕ, ◌+◌, ◌≤◌, List, [], ◌∷◌, ◌++◌, Option, map, take, refl, sym, ap, subst, ◌∙◌, append_assoc, append-nil, zero, suc, drop, length, length-take, arith}
 use Rattle.std.proofs.Math.Seq.{take-nil}
 use Rattle.si_defs.specs.Bytes.{Bytes}
 use Rattle.si_steps.specs.declared.limits.Limits.{Limits}

@@ -1,5 +1,5 @@
 // Which children can't be open, by their heads.
-ghost use Rattle.std.specs.Prelude.{◌≡◌, ◌↔◌, Some, IsTrue, length};
+ghost use Rattle.std.specs.Prelude.{◌≡◌, ◌↔◌, Some, IsTrue};
 ghost use Rattle.si_flat.specs.Cells.{IsWhole};
 ghost use Rattle.si_tree.specs.Reading.{IsNode};
 ghost use Rattle.si_unify.specs.Solving.{AllowsSolving};

@@ -41,3 +41,4 @@ pub mod DirectLaws
 pub mod PairLaws
 pub mod SmallLaws
 pub mod RenamingLaws
+pub mod WrittenLaws

@@ -1,6 +1,6 @@
 -- Terms folded by variables: where the image of a variable stands, the first such variable is
 -- written.
-use Rattle.std.specs.Prelude.{◌≡◌, ℕ, zero, suc, ◌+◌, ◌-◌, ◌^◌, ◌<◌, ◌≤◌, min, slice_index_or, ◌==◌, ◌&&◌, Bool, true, false, List, [], ◌∷◌, ◌++◌, length, slice_get, Option, None, Some}
+use Rattle.std.specs.Prelude.{◌≡◌, ℕ, zero, suc, ◌+◌, ◌-◌, ◌^◌, ◌<◌, ◌≤◌, min, slice_index_or, ◌==◌, ◌&&◌, Bool, true, false, List, [], ◌∷◌, ◌++◌, length, map, slice_get, Option, None, Some}
 use Rattle.si_defs.specs.Terms as terms
 use Rattle.std.specs.List.{AllByRecursion}
 use Rattle.si_flat.specs.declared.Cell.{Cell}
@@ -11,6 +11,7 @@ use Rattle.si_unify.specs.Solving.{slot_count, variable_of}
 use Rattle.si_form.specs.declared.classes.Node.{Node}
 use Rattle.si_form.specs.declared.classes.Node.TheVariants.{Variable as Of, Head, With}
 use Rattle.si_form.specs.declared.folding.Folding.TheInside.{Inside}
+use Rattle.si_form.specs.declared.folding.Written.{Written}
 use Rattle.si_form.specs.Classes.{AreNodes, KnowsSlot}
 
 abbrev pub same_numbered : Symbol → Symbol → Bool
@@ -121,7 +122,14 @@ IsUnfolding nodes left left' class front =
 abbrev pub HasTerms : List Node → Type 0
 HasTerms nodes = (slots : Slots) × (known : List Term) × AreNodes slots nodes known
 
--- ---- sizes
+-- ---- what is written for classes
+-- their leaders, and their sizes
+abbrev pub leaders_of : List Written → List (Option ℕ)
+leaders_of written = map (λ w. w.leader) written
+
+abbrev pub sizes_of : List Written → List ℕ
+sizes_of written = map (λ w. w.size) written
+
 abbrev pub part_size : Option ℕ → ℕ → ℕ
 part_size None size = size
 part_size (Some slot) size = 1
@@ -159,8 +167,8 @@ folded_of f =
     record {
       nodes = f.classes.nodes.keys;
       classes = f.classes.of_slots.items;
-      leaders = f.leaders.items;
-      sizes = f.sizes.items;
+      leaders = leaders_of f.written.items;
+      sizes = sizes_of f.written.items;
     }
 
 pub record IsFolding (f : Folded) : Type 0 where

@@ -1,9 +1,9 @@
 // Folded terms, from the numbers of classes.
-ghost use Rattle.std.specs.Prelude.{◌≡◌, ◌<◌, ◌≤◌, List, None, Some, length, slice_get, slice_index_or, reverse};
+ghost use Rattle.std.specs.Prelude.{◌≡◌, ◌<◌, List, None, Some, length, slice_get, slice_index_or, reverse};
 ghost use Rattle.std.specs.Prelude.{IfOk, OnOk};
 ghost use Rattle.std.specs.List.{AllByRecursion};
 ghost use Rattle.si_flat.specs.Cells.{Variable, Term};
-ghost use Rattle.si_form.specs.Folding.{HasTerms, HasSymbol, UnfoldsClass, part_size, node_size, HasPartsBefore};
+ghost use Rattle.si_form.specs.Folding.{HasTerms, HasSymbol, UnfoldsClass, leaders_of, sizes_of, part_size, node_size, HasPartsBefore};
 ghost use Rattle.si_form.specs.Folding.{AreSizes, WritesCells, CanFold, HasFolded, IsFolding};
 
 use crate::classes::{Classes, Node};
@@ -14,14 +14,20 @@ use si_unify::Slots;
 use std::alloc::{AllocError, Global};
 use std::marker::Model;
 
-/// Classes, and what is written for each. Where a class with a leader is a part of another, its
-/// leader's variable is written.
+/// What is written for a class.
+#[derive(Clone, Copy)]
+struct Written {
+    // The slot of its leader, if it has one, whose variable is written where the class is a part of
+    // another,
+    leader: Option<usize>,
+    // and how many cells are written for it by itself.
+    size: u32,
+}
+
+/// Classes, and what is written for each.
 pub(crate) struct Folding {
     classes: Classes,
-    // The slot of the leader of each class, if it has one,
-    leaders: Vec<Option<usize>>,
-    // and how many cells are written for it.
-    sizes: Vec<u32>,
+    written: Vec<Written>,
 }
 
 // It does what a derived one would, and is quicker to check (docs/PROVING.md, "Minutes").
@@ -29,8 +35,7 @@ impl Drop for Folding {
     fn drop(self) {
         let Folding {
             classes: _classes,
-            leaders: _leaders,
-            sizes: _sizes,
+            written: _written,
         } = self;
     }
 }
@@ -76,53 +81,54 @@ fn descend(
 }
 
 // How many cells are written for a class as a part of another: one for its leader, if it has one.
-fn part_size(sizes: &[u32], leaders: &[Option<usize>], class: usize) -> u32
-    requires sized { class < length sizes.now }
-    requires led { class < length leaders.now }
-    ensures { result ≡ part_size (slice_index_or leaders.now class None)
-        (slice_index_or sizes.now class 0) }
+fn part_size(written: &[Written], class: usize) -> u32
+    requires { class < length written.now }
+    ensures { result ≡ part_size (slice_index_or (leaders_of written.now) class None)
+        (slice_index_or (sizes_of written.now) class 0) }
 {
-    match leaders[class] {
+    let Written { leader, size } = written[class];
+    match leader {
         Some(_) => 1,
-        None => sizes[class],
+        None => size,
     }
 }
 
-// How many cells are written for a class, from the sizes of those before.
-fn node_size(sizes: &[u32], leaders: &[Option<usize>], node: Node) -> u32
-    requires before { HasPartsBefore (length sizes.now) node }
-    requires led { length sizes.now ≤ length leaders.now }
-    ensures { result ≡ node_size sizes.now leaders.now node }
+// How many cells are written for a class, from what is written for those before.
+fn node_size(written: &[Written], node: Node) -> u32
+    requires { HasPartsBefore (length written.now) node }
+    ensures { result ≡ node_size (sizes_of written.now) (leaders_of written.now) node }
 {
     match node {
         Node::Variable(_) => 1,
         Node::Head { .. } => 1,
         Node::With { front, argument } => {
-            sizes[front].saturating_add(part_size(sizes, leaders, argument))
+            written[front].size.saturating_add(part_size(written, argument))
         }
     }
 }
 
-// The number of cells of each class. A class that is too large to be written has the largest one.
-fn sizes(
+// What is written for each class. One that is too large to be written has the largest size.
+fn written_for(
     alloc: Global,
     nodes: &IndexSet<Node>,
     leaders: &[Option<usize>],
-) -> Result<Vec<u32>, AllocError>
+) -> Result<Vec<Written>, AllocError>
     requires terms { HasTerms nodes.now.keys }
     requires led { length leaders.now ≡ length nodes.now.keys }
-    ensures { IfOk result (λ sizes. AreSizes nodes.now.keys leaders.now
-        (length nodes.now.keys) sizes.items) }
+    ensures leaders { IfOk result (λ written. leaders_of written.items ≡ leaders.now) }
+    ensures sizes { IfOk result (λ written. AreSizes nodes.now.keys leaders.now
+        (length nodes.now.keys) (sizes_of written.items)) }
 {
-    let mut sizes = Vec::new(alloc);
-    for n in 0..nodes.len() {
-        let Some(&node) = nodes.get_index(n) else {
+    let mut written = Vec::new(alloc);
+    for class in 0..nodes.len() {
+        let Some(&node) = nodes.get_index(class) else {
             unreachable!()
         };
-        let size = node_size(&sizes, leaders, node);
-        sizes.push(size)?;
+        let leader = leaders[class];
+        let size = node_size(&written, node);
+        written.push(Written { leader, size })?;
     }
-    Ok(sizes)
+    Ok(written)
 }
 
 impl Folding {
@@ -135,12 +141,8 @@ impl Folding {
         ensures classes { IfOk result (λ f. f.classes ≡ classes.of_slots.items) }
     {
         let leaders = leaders(alloc, &classes)?;
-        let sizes = sizes(alloc, &classes.nodes, &leaders)?;
-        Ok(Folding {
-            classes,
-            leaders,
-            sizes,
-        })
+        let written = written_for(alloc, &classes.nodes, &leaders)?;
+        Ok(Folding { classes, written })
     }
 
     /// The class of the variable of a slot.
@@ -157,7 +159,7 @@ impl Folding {
         requires { class < length self.now.nodes }
         ensures { result ≡ slice_index_or self.now.leaders class None }
     {
-        self.leaders[class]
+        self.written[class].leader
     }
 
     // Writes the symbol of a class, and piles up the classes of its arguments.
@@ -172,7 +174,7 @@ impl Folding {
             (reverse left.new.items) cells.old.items cells.new.items class) }
     {
         let (sym, arity) = descend(&self.classes.nodes, left, class)?;
-        let len = self.sizes[class];
+        let len = self.written[class].size;
         cells.push(Cell::App { sym, arity, len })?;
         Ok(())
     }
@@ -192,7 +194,7 @@ impl Folding {
         let mut left = Vec::new(alloc);
         let mut cells = Vec::new(alloc);
         self.write_symbol(&mut left, &mut cells, class)?;
-        for _ in 1..self.sizes[class] {
+        for _ in 1..self.written[class].size {
             let Some(next) = left.pop() else {
                 unreachable!()
             };

@@ -236,12 +236,12 @@ impl Index {
     ) -> Result<Found<'a>, AllocError>
         // The pattern keeps arities, and isn't larger than a clause may be.
         requires sound { IsSoundPattern (pattern_of pattern.now) }
-        // Asked for the pattern, the engine answers entries that are kept and stand in the relation.
+        // Asked for the pattern, the engine answers kept entries alone that stand in the relation.
         requires standing { AnswersStanding (E.answers engine.now) self.now relation
             (pattern_of pattern.now) }
         // What is found knows its index, its relation and its pattern.
         ensures asked { IfOk result (IsFindingOf self.now relation (pattern_of pattern.now)) }
-        // The hits are exactly the entries that the engine answers, in order, and its count is kept.
+        // The hits are exactly the entries that the engine answers, in order, with what it counts.
         ensures hits { IfOk result (λ f. FindsHits (E.answers engine.now) (E.count engine.now)
             self.now relation (pattern_of pattern.now) f.hits f.passed) }
         // Each hit has its canonical list.

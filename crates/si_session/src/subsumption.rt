@@ -1,9 +1,8 @@
 // The answer to a question of subsumption: a line for each clause.
-ghost use Rattle.std.specs.Prelude.{◌≡◌, map};
+ghost use Rattle.std.specs.Prelude.{map};
 ghost use Rattle.std.specs.List.{AllByRecursion};
 ghost use Rattle.std.proofs.Props.{props};
 ghost use Rattle.si_defs.specs.Clauses.{AreSoundLiterals};
-ghost use Rattle.si_state.specs.Subsumption.{mapped_text};
 ghost use Rattle.si_steps.specs.Commands as command;
 ghost use Rattle.si_steps.specs.Replies.{mapped_reply};
 ghost use Rattle.si_steps.specs.Runs.{ended};

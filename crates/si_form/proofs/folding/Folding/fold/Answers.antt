@@ -1,19 +1,19 @@
-use Rattle.std.proofs.Common.{◌≡◌, ◌<◌, ◌∷◌, ◌++◌, ◌≤◌, [], get_or, length, reverse, refl, sym, ◌∙◌, ap, subst, arith}
-use Rattle.std.proofs.lemmas.Option.{get_or_from_slice_get, slice_get_read, slice_get_within}
+use Rattle.std.proofs.Common.{◌<◌, ◌∷◌, ◌++◌, ◌≤◌, [], get_or, length, reverse, sym, ◌∙◌, ap, subst, arith}
+use Rattle.std.proofs.lemmas.Option.{slice_get_within}
 use Rattle.std.proofs.lemmas.List.{reverse-append}
 use Rattle.si_form.specs.Folding.{Folded, IsFolding, WritesCells}
 use Rattle.si_form.proofs.NodeLaws.{none_piled}
 use Rattle.si_form.proofs.WritingLaws.{writing_begins, all_written, some_left, can_symbol, asked_of, writes_variable, writes_symbol}
+use Rattle.si_form.proofs.WrittenLaws.{length-sizes_of, size_there}
 use Rattle.si_form.proofs.folding.Folding.fold.Goals as goal
 
 pub unreachable-requires : goal.unreachable-requires
 unreachable-requires c =
     let can = c.requires.folds.3 in
     let less : c.args.class < length c.args.self.now.nodes = omega (arith, slice_get_within c.requires.folds.1 c.args.class c.requires.folds.2 can.class_is, can.are.long) in
-    let inside : c.args.class < length c.self.inside.sizes.items =
-    subst (λ n. c.args.class < n) (sym c.self.invariant.sized.long) (subst (λ (f : Folded). c.args.class < length f.nodes) (sym c.self.view_is) less) in
-    let len : c.index-end.result.now ≡ get_or c.self.inside.sizes.items c.args.class 0 =
-    sym (get_or_from_slice_get c.self.inside.sizes.items c.args.class c.index-end.result.now 0 (slice_get_read c.self.inside.sizes.items _ c.args.class c.index-end.result.now refl inside c.index-end.ensures)) in
+    let inside : c.args.class < length c.self.inside.written.items =
+    subst (λ n. c.args.class < n) (sym c.self.invariant.sized.long ∙ length-sizes_of c.self.inside.written.items) (subst (λ (f : Folded). c.args.class < length f.nodes) (sym c.self.view_is) less) in
+    let len = sym (size_there c.self.inside.written.items c.args.class c.index.result.now inside c.index.ensures) in
     some_left c.args.slots.now _ (subst IsFolding c.self.view_is c.self.invariant) _ _ c.loop.cells.items c.loop.counter
     (none_piled c.loop.left.items (omega (arith, c.in_default.ensures.cases.0, c.loop.left.ok)))
     (subst (λ (f : Folded). c.loop.counter < get_or f.sizes c.args.class 0) c.self.view_is (subst (λ n. c.loop.counter < n) len c.loop-test.true)) c.loop.invariant c.requires.folds
@@ -56,8 +56,7 @@ pub returns : goal.returns
 returns c =
     let can = c.requires.folds.3 in
     let less : c.args.class < length c.args.self.now.nodes = omega (arith, slice_get_within c.requires.folds.1 c.args.class c.requires.folds.2 can.class_is, can.are.long) in
-    let inside : c.args.class < length c.self.inside.sizes.items =
-    subst (λ n. c.args.class < n) (sym c.self.invariant.sized.long) (subst (λ (f : Folded). c.args.class < length f.nodes) (sym c.self.view_is) less) in
-    let len : c.index-end.result.now ≡ get_or c.self.inside.sizes.items c.args.class 0 =
-    sym (get_or_from_slice_get c.self.inside.sizes.items c.args.class c.index-end.result.now 0 (slice_get_read c.self.inside.sizes.items _ c.args.class c.index-end.result.now refl inside c.index-end.ensures)) in
+    let inside : c.args.class < length c.self.inside.written.items =
+    subst (λ n. c.args.class < n) (sym c.self.invariant.sized.long ∙ length-sizes_of c.self.inside.written.items) (subst (λ (f : Folded). c.args.class < length f.nodes) (sym c.self.view_is) less) in
+    let len = sym (size_there c.self.inside.written.items c.args.class c.index.result.now inside c.index.ensures) in
     all_written c.args.slots.now _ (subst IsFolding c.self.view_is c.self.invariant) _ (reverse c.loop.left.items) c.loop.cells.items c.loop.counter (subst (λ (f : Folded). get_or f.sizes c.args.class 0 ≤ c.loop.counter) c.self.view_is (subst (λ n. n ≤ c.loop.counter) len c.loop-test.false)) c.loop.invariant

@@ -102,7 +102,9 @@ fn node_size(written: &[Written], node: Node) -> u32
         Node::Variable(_) => 1,
         Node::Head { .. } => 1,
         Node::With { front, argument } => {
-            written[front].size.saturating_add(part_size(written, argument))
+            written[front]
+                .size
+                .saturating_add(part_size(written, argument))
         }
     }
 }

@@ -35,9 +35,9 @@ pub struct Trees {
 impl Drop for Trees {
     fn drop(self) {
         let Trees {
-            alloc: _,
-            pair: _pair,
             notes: _notes,
+            pair: _pair,
+            alloc: _,
         } = self;
     }
 }

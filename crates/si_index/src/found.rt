@@ -45,10 +45,10 @@ pub struct Shown {
 impl Drop for Shown {
     fn drop(self) {
         let Shown {
-            solution: _solution,
-            query_names: _query_names,
-            entry_names: _entry_names,
             extra: _extra,
+            entry_names: _entry_names,
+            query_names: _query_names,
+            solution: _solution,
         } = self;
     }
 }
@@ -75,10 +75,10 @@ pub struct Found<'a> {
 impl Drop for Found<'_> {
     fn drop(self) {
         let Found {
-            search: _search,
-            query_names: _query_names,
-            matches: _matches,
             passed: _,
+            matches: _matches,
+            query_names: _query_names,
+            search: _search,
         } = self;
     }
 }

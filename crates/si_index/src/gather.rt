@@ -40,8 +40,8 @@ pub(crate) struct Matches<'a> {
 impl Drop for Matches<'_> {
     fn drop(self) {
         let Matches {
-            found: _found,
             leaves: _leaves,
+            found: _found,
         } = self;
     }
 }
